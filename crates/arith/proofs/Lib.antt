@@ -1,0 +1,7 @@
+-- The laws of this crate, which the crates above cite too.
+pub mod Remainders
+pub mod Congruence
+pub mod Newton
+pub mod Fill
+pub mod Parts
+pub mod Refusals
