@@ -1,7 +1,7 @@
--- A loop that stores element after element: what its invariant needs, whatever is stored. Assumes nothing.
-use mathlib.Core.Path.{_≡_, sym, _∙_, subst}
-use mathlib.Core.List.{List}
-use Prim.Native.Nat.{ℕ, _+_, _≤_, _<_}
+-- A loop that stores element after element: what its invariant needs, whatever is stored; and lists joined place by place. Assumes nothing.
+use mathlib.Core.Path.{_≡_, refl, sym, ap, _∙_, subst}
+use mathlib.Core.List.{List, [], _∷_, zipWith}
+use Prim.Native.Nat.{ℕ, zero, suc, _+_, _≤_, _<_}
 use native.Mathlib.Nat.{lt-irrefl}
 use native.Mathlib.Omega.{arith}
 use borrow.Author.Count.{below-more}
@@ -22,3 +22,26 @@ filled-more f l i v h below e =
 -- all are stored
 pub filled-all : (f : ℕ → ℕ) (l r : List ℕ) (i : ℕ) → length l ≡ length r → length l ≤ i → Filled f l i → Filled f r (length r) → l ≡ r
 filled-all f l r i e h below right = ext-getD 0 l r e (λ k lt. below k (omega arith) ∙ sym (right k (omega arith)))
+
+-- ---- two lists joined place by place
+pub length-zipWith : (f : ℕ → ℕ → ℕ) (xs ys : List ℕ) → length xs ≡ length ys → length (zipWith f xs ys) ≡ length xs
+unfolding zipWith
+length-zipWith f [] ys h = refl
+length-zipWith f (x ∷ xs) [] h = sym h
+length-zipWith f (x ∷ xs) (y ∷ ys) h = ap suc (length-zipWith f xs ys (omega arith))
+
+pub getD-zipWith : (f : ℕ → ℕ → ℕ) (xs ys : List ℕ) (k : ℕ) → k < length xs → k < length ys → getD (zipWith f xs ys) k 0 ≡ f (getD xs k 0) (getD ys k 0)
+unfolding zipWith
+getD-zipWith f [] ys k h l = absurd (omega arith)
+getD-zipWith f (x ∷ xs) [] k h l = absurd (omega arith)
+getD-zipWith f (x ∷ xs) (y ∷ ys) zero h l = refl
+getD-zipWith f (x ∷ xs) (y ∷ ys) (suc k) h l = getD-zipWith f xs ys k (omega arith) (omega arith)
+
+-- a list whose elements are those of two others joined
+pub zipped : (f : ℕ → ℕ → ℕ) (xs ys l : List ℕ) (i : ℕ) → length l ≡ length xs → length xs ≡ length ys → length l ≤ i → Filled (λ (k : ℕ). f (getD xs k 0) (getD ys k 0)) l i → l ≡ zipWith f xs ys
+zipped f xs ys l i e d h below =
+    filled-all (λ (k : ℕ). f (getD xs k 0) (getD ys k 0)) l (zipWith f xs ys) i
+    (omega (arith, length-zipWith f xs ys d))
+    h
+    below
+    (λ k lt. getD-zipWith f xs ys k (omega (arith, length-zipWith f xs ys d)) (omega (arith, length-zipWith f xs ys d)))

@@ -1,16 +1,23 @@
--- What each call's refusal is written with. "Refusal" is the number of 01's table "Turned back"; 0 stands for none. Assumes nothing.
-use mathlib.Core.Bool.{Bool, true, false, _||_}
+-- What each call's refusal is written with. A "refusal" is a number of 01's table "Turned back"; 0 stands for none. Assumes nothing.
+use mathlib.Core.Bool.{Bool, true, false, _||_, cond}
 use Prim.Native.Nat.{ℕ}
 use lib.Dec.{ltb}
 
 -- 01, Turned back: the least applicable number counts. A call's refusal is a row of these in the table's order, with 0 at its end
 abbrev pub refuse : Bool → ℕ → ℕ → ℕ
-refuse true number rest = number
-refuse false number rest = rest
+refuse applies number rest = cond applies number rest
 
--- an answer where nothing is refused, and another where something is
-abbrev pub unless : {A : Type 0} → ℕ → A → A → A
-unless {A} number refused answer = elim (ltb 0 number) [ true ↦ refused | false ↦ answer ]
+-- one value where something is refused, another where nothing is
+abbrev pub unlessRefused : {A : Type 0} → ℕ → A → A → A
+unlessRefused number answer refused = cond (ltb 0 number) refused answer
+
+-- 01, Expected forms: what an answer that is an enum says, in 01's terms: a number of the table, or a value. Each enum has a definition to it
+pub data Outcome (A : Type 0) : Type 0 where
+  refused : ℕ → Outcome A
+  answer : A → Outcome A
+
+abbrev pub outcome : {A : Type 0} → ℕ → A → Outcome A
+outcome number value = unlessRefused number (answer value) (refused number)
 
 -- n is not `low` to `high`
 abbrev pub outsideOf : ℕ → ℕ → ℕ → Bool

@@ -1,0 +1,38 @@
+-- `simd::gate_apply` meets its contract: the width is tested as the definition tests it. Assumes nothing.
+use mathlib.Core.Path.{sym, ap, _∙_}
+use mathlib.Core.Bool.{Bool}
+use mathlib.Core.List.{List}
+use Prim.Native.Nat.{ℕ, _-_}
+use borrow.Author.Needs.{needs}
+use Rattle.arith.specs.Refusal.{refuse}
+use Rattle.arith.proofs.Refusals.{within}
+use Rattle.simd.specs.Gates.{gateRow, rowOr}
+use mathlib.Core.Path.{sym, ap, _∙_}
+use mathlib.Core.Bool.{Bool}
+use Prim.Native.Nat.{ℕ, _-_}
+use Rattle.arith.specs.Refusal.{refuse}
+use Rattle.simd.specs.Gates.{gateRow, rowOr}
+use Rattle.simd.proofs.gate_apply.Statement.{statement}
+use Rattle.simd.proofs.gate_apply.Tie as tie
+
+outside-requires : tie.Need-outside-requires
+outside-requires c κs = search needs
+
+returns : tie.Need-returns
+returns c =
+    let s = c .before .before .args in
+    ap (λ (bad : Bool). rowOr (refuse bad 2 0) (gateRow (s .g) (s .w) (s .a) (s .b))) (sym (c .if1 .taken) ∙ c .before .outside .ensures)
+
+gate-row-requires : tie.Need-gate-row-requires
+gate-row-requires c κs =
+    let t = c .before in
+    within 1 64 (t .before .args .w) (sym (t .outside .ensures) ∙ c .if1 .left) .most
+
+returns-2 : tie.Need-returns-2
+returns-2 c =
+    let s = c .before .before .before .args in
+    ap (λ (row : List ℕ). rowOr 0 row) (c .gate-row .ensures)
+    ∙ ap (λ (bad : Bool). rowOr (refuse bad 2 0) (gateRow (s .g) (s .w) (s .a) (s .b))) (sym (c .before .if1 .left) ∙ c .before .before .outside .ensures)
+
+pub gate-apply-spec : {M : Type 1} → statement M
+gate-apply-spec = tie.close (tie.spec outside-requires returns gate-row-requires returns-2)
