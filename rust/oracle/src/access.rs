@@ -1,0 +1,62 @@
+//! Reaches the private functions of template_decomposer.rs, with plain numbers in and out.
+//!
+//! build.rs makes this file a child module of that original, so `super` is the original. Widths are handed in as
+//! numbers and become masks by the original `bitmask`; gates are their numbers (0 And, 1 Or, 2 Xor, 3 Add, 4 Mul).
+//! Nothing is refused here: what the original does not expect, it is not to be asked.
+
+use super::{ProbeVals, ALL_GATES, N_PROBES};
+
+/// A row: the values at the sixteen points.
+pub type Row = [u64; N_PROBES];
+
+/// `bitmask` of arith.rs.
+pub fn bitmask(width: u32) -> u64 {
+    super::bitmask(width)
+}
+
+/// `mod_inverse_odd` as the original calls it: the stand-in.
+pub fn mod_inverse_odd(m: u64, k: u32) -> u64 {
+    crate::ir::math_utils::mod_inverse_odd(m, k)
+}
+
+/// One step of `splitmix64`: the state after it, and the word.
+pub fn splitmix64(state: u64) -> (u64, u64) {
+    let mut state = state;
+    let word = super::splitmix64(&mut state);
+    (state, word)
+}
+
+/// `make_probe_points`: sixteen points of `num_vars` words each.
+pub fn make_probe_points(num_vars: u32, width: u32) -> Vec<Vec<u64>> {
+    super::make_probe_points(num_vars, width)
+}
+
+/// `ProbeVals::fingerprint`.
+pub fn fingerprint(row: Row) -> u64 {
+    ProbeVals(row).fingerprint()
+}
+
+/// `ProbeVals::apply_gate`, which is `gate_apply` of cobra-simd.
+pub fn gate_apply(a: Row, b: Row, gate: usize, width: u32) -> Row {
+    ProbeVals(a)
+        .apply_gate(&ProbeVals(b), ALL_GATES[gate], bitmask(width))
+        .0
+}
+
+/// `ProbeVals::residual`, which is `gate_residual` of cobra-simd.
+pub fn gate_residual(target: Row, a: Row, gate: usize, width: u32) -> Row {
+    ProbeVals(target)
+        .residual(&ProbeVals(a), ALL_GATES[gate], bitmask(width))
+        .0
+}
+
+/// `gate_matches`, which is that of cobra-simd.
+pub fn gate_matches(a: Row, b: Row, target: Row, gate: usize, width: u32) -> bool {
+    super::gate_matches(
+        &ProbeVals(a),
+        &ProbeVals(b),
+        &ProbeVals(target),
+        ALL_GATES[gate],
+        bitmask(width),
+    )
+}

@@ -1,0 +1,33 @@
+//! Where the driver's inputs come from: a splitmix64 generator of its own, so that the originals' answers do not choose
+//! what the originals are asked. The order of the calls fixes every input.
+
+use oracle::access::Row;
+
+/// The seed, the bytes of "SIMJALDE". Each kind of line has a generator of its own, from this number plus the kind.
+pub const INPUT_SEED: u64 = 0x5349_4D4A_414C_4445;
+
+pub struct Inputs {
+    state: u64,
+}
+
+impl Inputs {
+    pub fn of_kind(kind: u64) -> Self {
+        Self {
+            state: INPUT_SEED + kind,
+        }
+    }
+
+    /// Any 64-bit word.
+    pub fn word(&mut self) -> u64 {
+        self.state = self.state.wrapping_add(0x9E37_79B9_7F4A_7C15);
+        let z = self.state;
+        let z = (z ^ (z >> 30)).wrapping_mul(0xBF58_476D_1CE4_E5B9);
+        let z = (z ^ (z >> 27)).wrapping_mul(0x94D0_49BB_1331_11EB);
+        z ^ (z >> 31)
+    }
+
+    /// A row of words below 2^width, for a width from 1 to 64.
+    pub fn row(&mut self, width: u32) -> Row {
+        std::array::from_fn(|_| self.word() >> (64 - width))
+    }
+}

@@ -1,0 +1,29 @@
+//! The originals of binsnake/cobra, compiled unchanged, and what it takes to ask them.
+//!
+//! The modules below stand where the originals look for one another: `crate::core`, `crate::passes`, `crate::simd`,
+//! `crate::ir`. Their files are copied by build.rs from the folder that `COBRA_SRC` names. What the originals use but the
+//! oracle does not take from the checkout is in `standins`. A caller needs only `access`: plain numbers in, plain numbers out.
+
+// The originals say `smallvec::SmallVec`: this crate is found under that name too, and hands out its stand-in.
+extern crate self as smallvec;
+
+mod standins;
+
+pub use passes::template_decomposer::access;
+pub use standins::smallvec::SmallVec;
+
+pub mod core {
+    include!(concat!(env!("OUT_DIR"), "/core_mods.rs"));
+    pub use crate::standins::{classification, result, width};
+}
+
+pub mod passes {
+    include!(concat!(env!("OUT_DIR"), "/passes_mods.rs"));
+    pub use crate::standins::spot_check;
+}
+
+pub mod ir {
+    pub use crate::standins::math_utils;
+}
+
+include!(concat!(env!("OUT_DIR"), "/root_mods.rs"));
