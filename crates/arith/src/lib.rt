@@ -3,7 +3,12 @@ ghost use mathlib.Core.Path.{_≡_};
 ghost use Prim.Native.Nat.{ℕ, _+_, _-_, _*_, _%_, _^_, _≤_};
 ghost use Rattle.arith.specs.Word.{modulus, notOf, negOf, subOf};
 ghost use Rattle.arith.specs.Cong.{Cong, Inverse};
-ghost use Rattle.arith.specs.Refusal.{outsideOf};
+ghost use Rattle.arith.specs.Refusal.{outsideOf, badCount, badWidth};
+
+// The most variables of a formula, and bits of a word.
+pub const MAX_VARS: u32 = 6;
+
+pub const MAX_WIDTH: u32 = 64;
 
 // The mask of the w lowest bits: 0 at 0, all ones from 64 up.
 pub fn bitmask(w: u32) -> u64
@@ -103,4 +108,18 @@ pub fn outside(n: u32, low: u32, high: u32) -> bool
         return true;
     }
     high < n
+}
+
+// Whether a variable count is not 1 to 6: refusal 1.
+pub fn bad_count(nv: u32) -> bool
+    ensures { λ r. ⌜ r ≡ badCount nv ⌝ }
+{
+    outside(nv, 1, MAX_VARS)
+}
+
+// Whether a width is not 1 to 64: refusal 2.
+pub fn bad_width(w: u32) -> bool
+    ensures { λ r. ⌜ r ≡ badWidth w ⌝ }
+{
+    outside(w, 1, MAX_WIDTH)
 }

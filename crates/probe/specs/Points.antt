@@ -55,9 +55,13 @@ probePoints nv w = pointsFrom nv w 16 0xC0B4A
 abbrev pub pointsRefusal : ℕ → ℕ → ℕ
 pointsRefusal nv w = refuse (badCount nv) 1 (refuse (badWidth w) 2 0)
 
--- what `make_probe_points` answers: zeros beside a refusal
+-- 01, Turned back: an array that a call hands back by value holds only zeros when turned back
+abbrev pub zeroPoints : List Point
+zeroPoints = replicate 16 (record { words = replicate 6 0 })
+
+-- what `make_probe_points` answers
 abbrev pub pointsOr : ℕ → List Point → Points
-pointsOr number points = record { refusal = number; points = unlessRefused number points (replicate 16 (record { words = replicate 6 0 })) }
+pointsOr number points = record { refusal = number; points = unlessRefused number points zeroPoints }
 
 abbrev pub madePoints : ℕ → ℕ → Points
 madePoints nv w = pointsOr (pointsRefusal nv w) (probePoints nv w)

@@ -1,7 +1,7 @@
 // Probe points and fingerprints, from template_decomposer.rs.
 ghost use mathlib.Core.Path.{_≡_};
 ghost use Prim.Native.Nat.{_≤_};
-ghost use Rattle.probe.specs.Points.{drawn, probePoints, madePoints, DrawsPoint};
+ghost use Rattle.probe.specs.Points.{drawn, zeroPoints, probePoints, madePoints, DrawsPoint};
 ghost use Rattle.probe.specs.Fingerprint.{fingerprintOf, mixWord, finished};
 
 // How many points there are, and the words of each (N_PROBES, MAX_VARS).
@@ -52,20 +52,22 @@ pub fn splitmix64(state: u64) -> Draw
 pub fn make_probe_points(nv: u32, w: u32) -> Points
     ensures { λ r. ⌜ r ≡ madePoints nv w ⌝ }
 {
-    if arith::outside(nv, 1, 6) {
-        return Points {
-            refusal: 1,
-            points: [Point { words: [0; 6] }; 16],
-        };
+    if arith::bad_count(nv) {
+        return refused_points(1);
     }
-    if arith::outside(w, 1, 64) {
-        return Points {
-            refusal: 2,
-            points: [Point { words: [0; 6] }; 16],
-        };
+    if arith::bad_width(w) {
+        return refused_points(2);
     }
     let points = draw_points(nv as usize, w);
     Points { refusal: 0, points }
+}
+
+// Zeros beside a refusal.
+fn refused_points(refusal: u32) -> Points
+    ensures { λ r. ⌜ r ≡ record { refusal = refusal; points = zeroPoints } ⌝ }
+{
+    let points = [Point { words: [0; 6] }; 16];
+    Points { refusal, points }
 }
 
 // Point after point.

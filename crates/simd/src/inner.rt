@@ -64,12 +64,12 @@ pub fn row_matches(a: [u64; 16], b: [u64; 16], target: [u64; 16], g: Gate, w: u3
     requires { ⌜ w ≤ 64 ⌝ }
     ensures { λ r. ⌜ r ≡ sameRow (gateRow g w a b) target ⌝ }
 {
-    let mut i: usize = 0;
-    while i < ROW_WORDS {
-        if gate_apply_lane(a[i], b[i], g, w) != target[i] {
+    let mut place: usize = 0;
+    while place < ROW_WORDS {
+        if gate_apply_lane(a[place], b[place], g, w) != target[place] {
             return false;
         }
-        i += 1;
+        place += 1;
     }
     true
 }

@@ -15,24 +15,28 @@ use Rattle.simd.specs.Gates.{gateRow, rowOr}
 use Rattle.simd.proofs.gate_apply.Statement.{statement}
 use Rattle.simd.proofs.gate_apply.Tie as tie
 
-outside-requires : tie.Need-outside-requires
-outside-requires c κs = search needs
+bad-width-requires : tie.Need-bad-width-requires
+bad-width-requires c κs = search needs
+
+refused-row-requires : tie.Need-refused-row-requires
+refused-row-requires c κs = search needs
 
 returns : tie.Need-returns
 returns c =
-    let s = c .before .before .args in
-    ap (λ (bad : Bool). rowOr (refuse bad 2 0) (gateRow (s .g) (s .w) (s .a) (s .b))) (sym (c .if1 .taken) ∙ c .before .outside .ensures)
+    let t = c .before in
+    let s = t .before .before .args in
+    c .refused-row .ensures ∙ ap (λ (bad : Bool). rowOr (refuse bad 2 0) (gateRow (s .g) (s .w) (s .a) (s .b))) (sym (t .if1 .taken) ∙ t .before .bad-width .ensures)
 
 gate-row-requires : tie.Need-gate-row-requires
 gate-row-requires c κs =
     let t = c .before in
-    within 1 64 (t .before .args .w) (sym (t .outside .ensures) ∙ c .if1 .left) .most
+    within 1 64 (t .before .args .w) (sym (t .bad-width .ensures) ∙ c .if1 .left) .most
 
 returns-2 : tie.Need-returns-2
 returns-2 c =
     let s = c .before .before .before .args in
     ap (λ (row : List ℕ). rowOr 0 row) (c .gate-row .ensures)
-    ∙ ap (λ (bad : Bool). rowOr (refuse bad 2 0) (gateRow (s .g) (s .w) (s .a) (s .b))) (sym (c .before .if1 .left) ∙ c .before .before .outside .ensures)
+    ∙ ap (λ (bad : Bool). rowOr (refuse bad 2 0) (gateRow (s .g) (s .w) (s .a) (s .b))) (sym (c .before .if1 .left) ∙ c .before .before .bad-width .ensures)
 
 pub gate-apply-spec : {M : Type 1} → statement M
-gate-apply-spec = tie.close (tie.spec outside-requires returns gate-row-requires returns-2)
+gate-apply-spec = tie.close (tie.spec bad-width-requires refused-row-requires returns gate-row-requires returns-2)

@@ -17,10 +17,10 @@ use Rattle.simd.proofs.inner.row_matches.Statement.{statement}
 use Rattle.simd.proofs.inner.row_matches.Tie as tie
 
 abbrev Inv-loop : tie.InvT-loop
-Inv-loop g w a b target i₀ i = (i ≤ 16) × ((k : ℕ) → k < i → gateOf g w (getD a k 0) (getD b k 0) ≡ getD target k 0)
+Inv-loop g w a b target place₀ place = (place ≤ 16) × ((k : ℕ) → k < place → gateOf g w (getD a k 0) (getD b k 0) ≡ getD target k 0)
 
 abbrev μ-loop : tie.MeasureT-loop
-μ-loop g w a b target i₀ i = 16 - i
+μ-loop g w a b target place₀ place = 16 - place
 
 loop-holds : tie.Need-loop-holds Inv-loop μ-loop
 loop-holds c = (search needs, λ k h. absurd (omega arith))
@@ -50,12 +50,12 @@ returns : tie.Need-returns Inv-loop μ-loop
 returns c =
     let t = c .before .before .before in
     let s = t .before .args in
-    let at = getD-gateRow (s .g) (s .w) (s .t1) (s .t2) (t .loop .i) (search needs) (search needs) in
+    let at = getD-gateRow (s .g) (s .w) (s .t1) (s .t2) (t .loop .place) (search needs) (search needs) in
     sym (same-row-not (gateRow (s .g) (s .w) (s .t1) (s .t2)) (s .t3)
-    (λ e. c .if1 .taken (c .before .gate-apply-lane .ensures ∙ sym at ∙ ap (λ (l : List ℕ). getD l (t .loop .i) 0) e)))
+    (λ e. c .if1 .taken (c .before .gate-apply-lane .ensures ∙ sym at ∙ ap (λ (l : List ℕ). getD l (t .loop .place) 0) e)))
 
-add-i : tie.Need-add-i Inv-loop μ-loop
-add-i c = search needs
+add-place : tie.Need-add-place Inv-loop μ-loop
+add-place c = search needs
 
 loop-less : tie.Need-loop-less Inv-loop μ-loop
 loop-less c = search needs
@@ -63,7 +63,7 @@ loop-less c = search needs
 loop-again : tie.Need-loop-again Inv-loop μ-loop
 loop-again c =
     let t = c .before .before .before in
-    (omega arith, below-more _ (t .loop .i) (t .loop .inv .1) (sym (c .before .gate-apply-lane .ensures) ∙ c .if1 .left))
+    (omega arith, below-more _ (t .loop .place) (t .loop .inv .1) (sym (c .before .gate-apply-lane .ensures) ∙ c .if1 .left))
 
 returns-2 : tie.Need-returns-2 Inv-loop μ-loop
 returns-2 c =
@@ -88,7 +88,7 @@ row-matches-spec =
     mul-if1
     array-read-if1
     returns
-    add-i
+    add-place
     loop-less
     loop-again
     returns-2)

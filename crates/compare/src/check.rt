@@ -1,0 +1,212 @@
+// One line of a data file against our own answer. The first number is the kind; data/probe.txt tells what follows.
+use simd::Gate;
+use simd::Match;
+ghost use Prim.Native.Nat.{_+_, _≤_};
+ghost use lib.ListN.{length};
+
+// A kind that is not known, or a line that is too short or too long for its kind, is not the same.
+pub fn line_same(line: &[u64]) -> bool {
+    if line.len() == 0 {
+        return false;
+    }
+    let kind = line[0];
+    match kind {
+        1 => splitmix64_same(line),
+        2 => points_same(line),
+        3 => fingerprint_same(line),
+        4 => gate_same(line),
+        5 => residual_same(line),
+        6 => matches_same(line),
+        7 => bitmask_same(line),
+        8 => inverse_same(line),
+        _ => false,
+    }
+}
+
+// A width or a count as a u32; the data holds none that is larger.
+fn narrow(x: u64) -> u32 {
+    if x <= 0xffff_ffff {
+        x as u32
+    } else {
+        0xffff_ffff
+    }
+}
+
+fn row_at(line: &[u64], base: usize) -> [u64; 16]
+    requires { ⌜ base + 16 ≤ length (now line) ⌝ }
+{
+    let mut row = [0u64; 16];
+    let mut i: usize = 0;
+    while i < 16 {
+        row[i] = line[base + i];
+        i += 1;
+    }
+    row
+}
+
+fn row_same(row: [u64; 16], line: &[u64], base: usize) -> bool
+    requires { ⌜ base + 16 ≤ length (now line) ⌝ }
+{
+    let mut i: usize = 0;
+    while i < 16 {
+        if row[i] != line[base + i] {
+            return false;
+        }
+        i += 1;
+    }
+    true
+}
+
+fn gate_of(number: u64) -> Gate {
+    match number {
+        0 => Gate::And,
+        1 => Gate::Or,
+        2 => Gate::Xor,
+        3 => Gate::Add,
+        _ => Gate::Mul,
+    }
+}
+
+// 1 STATE NEXT WORD
+fn splitmix64_same(line: &[u64]) -> bool {
+    if line.len() != 4 {
+        return false;
+    }
+    let d = probe::splitmix64(line[1]);
+    if d.state != line[2] {
+        return false;
+    }
+    d.word == line[3]
+}
+
+// 2 NV W REFUSAL, then six words of each point
+fn points_same(line: &[u64]) -> bool {
+    if line.len() != 100 {
+        return false;
+    }
+    let made = probe::make_probe_points(narrow(line[1]), narrow(line[2]));
+    if made.refusal as u64 != line[3] {
+        return false;
+    }
+    let mut k: usize = 0;
+    while k < 16 {
+        let p = made.points[k];
+        if !point_same(p, line, 4 + 6 * k) {
+            return false;
+        }
+        k += 1;
+    }
+    true
+}
+
+fn point_same(p: probe::Point, line: &[u64], base: usize) -> bool
+    requires { ⌜ base + 6 ≤ length (now line) ⌝ }
+{
+    let mut i: usize = 0;
+    while i < 6 {
+        if p.words[i] != line[base + i] {
+            return false;
+        }
+        i += 1;
+    }
+    true
+}
+
+// 3, a row, F
+fn fingerprint_same(line: &[u64]) -> bool {
+    if line.len() != 18 {
+        return false;
+    }
+    probe::fingerprint(row_at(line, 1)) == line[17]
+}
+
+// 4 GATE W REFUSAL, rows a, b and the answer
+fn gate_same(line: &[u64]) -> bool {
+    if line.len() != 52 {
+        return false;
+    }
+    if 4 < line[1] {
+        return false;
+    }
+    let r = simd::gate_apply(
+        row_at(line, 4),
+        row_at(line, 20),
+        gate_of(line[1]),
+        narrow(line[2]),
+    );
+    if r.refusal as u64 != line[3] {
+        return false;
+    }
+    let row = r.row;
+    row_same(row, line, 36)
+}
+
+// 5 GATE W REFUSAL, rows target, a and the answer
+fn residual_same(line: &[u64]) -> bool {
+    if line.len() != 52 {
+        return false;
+    }
+    if 4 < line[1] {
+        return false;
+    }
+    let r = simd::gate_residual(
+        row_at(line, 4),
+        row_at(line, 20),
+        gate_of(line[1]),
+        narrow(line[2]),
+    );
+    if r.refusal as u64 != line[3] {
+        return false;
+    }
+    let row = r.row;
+    row_same(row, line, 36)
+}
+
+// 6 GATE W REFUSAL YES, rows a, b and target
+fn matches_same(line: &[u64]) -> bool {
+    if line.len() != 53 {
+        return false;
+    }
+    if 4 < line[1] {
+        return false;
+    }
+    let m = simd::gate_matches(
+        row_at(line, 5),
+        row_at(line, 21),
+        row_at(line, 37),
+        gate_of(line[1]),
+        narrow(line[2]),
+    );
+    match m {
+        Match::Same => answer_is(line, 0, 1),
+        Match::Different => answer_is(line, 0, 0),
+        Match::Refused(number) => answer_is(line, number as u64, 0),
+    }
+}
+
+// Whether the line expects this refusal and this yes or no.
+fn answer_is(line: &[u64], refusal: u64, yes: u64) -> bool {
+    if line.len() < 5 {
+        return false;
+    }
+    if line[3] != refusal {
+        return false;
+    }
+    line[4] == yes
+}
+
+// 7 W MASK
+fn bitmask_same(line: &[u64]) -> bool {
+    if line.len() != 3 {
+        return false;
+    }
+    arith::bitmask(narrow(line[1])) == line[2]
+}
+
+// 8 M K R
+fn inverse_same(line: &[u64]) -> bool {
+    if line.len() != 4 {
+        return false;
+    }
+    arith::mod_inverse_odd(line[1], narrow(line[2])) == line[3]
+}
