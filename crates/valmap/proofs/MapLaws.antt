@@ -1,9 +1,9 @@
 -- Laws of the map for those who call it: it is empty after `clear`, it takes one slot more, it speaks of the rows below n alone, and what each
 -- case of `Lookup` gives. Assumes nothing.
-use mathlib.Core.Path.{_≡_, refl, sym, ap, _∙_, subst}
-use mathlib.Core.Logic.{_⊎_, inl, inr}
-use mathlib.Core.List.{List, _++_}
-use Prim.Native.Nat.{ℕ, _+_, _*_, _%_, _^_, _≤_, _<_}
+use mathlib.Core.Path.{_≡_, sym, ap, _∙_, subst}
+use mathlib.Core.Logic.{inl, inr}
+use mathlib.Core.List.{List}
+use Prim.Native.Nat.{ℕ, _+_, _*_, _^_, _≤_, _<_}
 use native.Mathlib.Decide.{ℕ-discrete}
 use native.Mathlib.Nat.{mod-lt}
 use native.Mathlib.Omega.{arith}
@@ -13,6 +13,7 @@ use lib.Pow.{pow-pos}
 use lib.Seq.{getD-set-same, getD-set-other}
 use Rattle.arith.specs.Parts.{partAt, putPart}
 use Rattle.arith.proofs.Parts.{part-put-same, part-put-other}
+use Rattle.arith.proofs.Remainders.{le-or-lt}
 use Rattle.probe.specs.Fingerprint.{fingerprintOf}
 use Rattle.valmap.specs.Map.{homeOf, Top, Held, cleared, Hit, Miss, FindOk, Inserted}
 use Rattle.valmap.specs.declared.Lookup.{Lookup}
@@ -118,3 +119,16 @@ lookup-at bits {n} {s} {rows} {row} e ok = subst (λ (g : Lookup). FindOk bits r
 
 pub lookup-free : {bits n h : ℕ} {rows row : List ℕ} {r : Lookup} → r ≡ Free h → FindOk bits rows n row r → Miss bits rows n row h
 lookup-free {bits} {n} {h} {rows} {row} e ok = subst (λ (g : Lookup). FindOk bits rows n row g) e ok
+
+-- one answer is right: what is found depends on the rows alone, on no content of the area before or after `clear`
+pub lookup-one : (bits n : ℕ) (rows row : List ℕ) (r r′ : Lookup) → FindOk bits rows n row r → FindOk bits rows n row r′ → r ≡ r′
+lookup-one bits n rows row (At s) (At t) a b = elim (ℕ-discrete s t) [
+  | yes e ↦ ap (λ (k : ℕ). At k) e
+  | no other ↦ elim (le-or-lt s t) [
+    | inl le ↦ absurd (a .newest t (omega arith) (b .below) (b .same))
+    | inr lt ↦ absurd (b .newest s lt (a .below) (a .same))
+  ]
+]
+lookup-one bits n rows row (At s) (Free h) a b = absurd (b .none s (a .below) (a .same))
+lookup-one bits n rows row (Free h) (At t) a b = absurd (a .none t (b .below) (b .same))
+lookup-one bits n rows row (Free h) (Free k) a b = ap (λ (g : ℕ). Free g) (a .home ∙ sym (b .home))

@@ -2,9 +2,10 @@
 // rows have one home: its head is the newest, and each link leads to the next older one. An entry is a slot and one.
 use crate::Lookup;
 ghost use mathlib.Core.Path.{_≡_};
-ghost use Prim.Native.Nat.{_^_, _≤_, _<_};
+ghost use Prim.Native.Nat.{_%_, _^_, _≤_, _<_};
 ghost use lib.ListN.{length};
-ghost use Rattle.valmap.specs.Map.{homeOf, cleared, Searchable, FindOk, Room, Inserted};
+ghost use Rattle.probe.specs.Fingerprint.{fingerprintOf};
+ghost use Rattle.valmap.specs.Map.{cleared, Searchable, FindOk, Room, Inserted};
 
 // The entry that ends a chain.
 const NO_SLOT: u32 = 0;
@@ -17,12 +18,12 @@ fn heads(bits: u32) -> usize
     1 << bits
 }
 
-// The chain of a row.
-fn home(row: [u64; 16], bits: u32) -> u32
+// The chain of a row, by its fingerprint.
+fn home_of(print: u64, bits: u32) -> u32
     requires { ⌜ bits ≤ 31 ⌝ }
-    ensures { λ r. ⌜ (r ≡ homeOf bits row) × (r < 2 ^ bits) ⌝ }
+    ensures { λ r. ⌜ (r ≡ print % 2 ^ bits) × (r < 2 ^ bits) ⌝ }
 {
-    arith::reduce(probe::fingerprint(row), bits) as u32
+    arith::reduce(print, bits) as u32
 }
 
 // Empties the map, whatever the area held.
@@ -43,9 +44,26 @@ pub fn find(work: &[u32], bits: u32, rows: &[u64], n: usize, row: [u64; 16]) -> 
     requires { ⌜ Searchable (now work) bits (now rows) n ⌝ }
     ensures { λ r. ⌜ FindOk bits (now (rows .entry)) n row r ⌝ }
 {
+    let print = probe::fingerprint(row);
+    find_by(work, bits, rows, n, row, print)
+}
+
+// The same for a caller that has the row's fingerprint: two maps are searched with one.
+pub fn find_by(
+    work: &[u32],
+    bits: u32,
+    rows: &[u64],
+    n: usize,
+    row: [u64; 16],
+    print: u64,
+) -> Lookup
+    requires { ⌜ Searchable (now work) bits (now rows) n ⌝ }
+    requires { ⌜ print ≡ fingerprintOf row ⌝ }
+    ensures { λ r. ⌜ FindOk bits (now (rows .entry)) n row r ⌝ }
+{
     let links = heads(bits);
-    let chain = home(row, bits);
-    let mut entry = work[chain as usize];
+    let home = home_of(print, bits);
+    let mut entry = work[home as usize];
     while entry != NO_SLOT {
         let slot = entry - 1;
         if simd::inner::same_row(rows, slot as usize, row) {
@@ -53,16 +71,16 @@ pub fn find(work: &[u32], bits: u32, rows: &[u64], n: usize, row: [u64; 16]) -> 
         }
         entry = work[links + slot as usize];
     }
-    Lookup::Free(chain)
+    Lookup::Free(home)
 }
 
-// Takes slot n into a chain, as its newest.
-pub fn insert(work: &mut [u32], bits: u32, n: usize, chain: u32)
-    requires { ⌜ Room (now work) bits n chain ⌝ }
-    ensures { λ _. ⌜ Inserted (now (work .entry)) (now (work .exit)) bits n chain ⌝ }
+// Takes slot n into the chain `home`, as its newest.
+pub fn insert(work: &mut [u32], bits: u32, n: usize, home: u32)
+    requires { ⌜ Room (now work) bits n home ⌝ }
+    ensures { λ _. ⌜ Inserted (now (work .entry)) (now (work .exit)) bits n home ⌝ }
 {
     let link = heads(bits) + n;
-    let head = chain as usize;
+    let head = home as usize;
     work[link] = work[head];
     work[head] = (n + 1) as u32;
 }

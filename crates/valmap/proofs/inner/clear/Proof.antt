@@ -1,15 +1,10 @@
 -- `valmap::inner::clear` meets its contract: the heads passed are 0, and the rest is as it was. Assumes nothing.
 use mathlib.Core.Path.{_≡_, refl}
 use mathlib.Core.List.{_++_}
-use Prim.Native.Nat.{_+_, _-_, _^_, _≤_, _<_}
+use Prim.Native.Nat.{_-_, _^_, _≤_, _<_}
 use native.Mathlib.Omega.{arith}
 use borrow.Author.Fill.{fill-none, fill-more}
 use borrow.Author.Needs.{needs}
-use lib.ListN.{length, drop, replicate, length-set}
-use Rattle.valmap.specs.Map.{cleared}
-use mathlib.Core.Path.{_≡_, refl}
-use mathlib.Core.List.{_++_}
-use Prim.Native.Nat.{_+_, _-_, _^_, _≤_, _<_}
 use lib.ListN.{length, drop, replicate, length-set}
 use Rattle.valmap.specs.Map.{cleared}
 use Rattle.valmap.proofs.inner.clear.Statement.{statement}

@@ -1,9 +1,6 @@
 -- `valmap::inner::heads` meets its contract: the shift loses nothing. Assumes nothing.
-use Prim.Native.Nat.{_-_}
 use native.Mathlib.Omega.{arith}
 use borrow.Author.Needs.{needs}
-use Rattle.arith.proofs.Remainders.{shl-one}
-use Prim.Native.Nat.{_-_}
 use Rattle.arith.proofs.Remainders.{shl-one}
 use Rattle.valmap.proofs.inner.heads.Statement.{statement}
 use Rattle.valmap.proofs.inner.heads.Tie as tie

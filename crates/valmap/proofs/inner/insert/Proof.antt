@@ -1,10 +1,6 @@
 -- `valmap::inner::insert` meets its contract: the link takes the old head, and the head takes slot n. Assumes nothing.
-use Prim.Native.Nat.{_-_}
 use native.Mathlib.Omega.{arith}
 use borrow.Author.Needs.{needs}
-use lib.ListN.{length-set}
-use Rattle.valmap.proofs.MapLaws.{held-more}
-use Prim.Native.Nat.{_-_}
 use lib.ListN.{length-set}
 use Rattle.valmap.proofs.MapLaws.{held-more}
 use Rattle.valmap.proofs.inner.insert.Statement.{statement}
@@ -49,7 +45,7 @@ returns : tie.Need-returns
 returns c =
     let t = c .before .before .before in
     let s = t .args in
-    record { held = λ rows held e. rw (c .before .heads .ensures) (held-more (s .work .now) rows (s .bits) (s .n) (s .chain) (t .pre .link) (t .pre .chain) e held) }
+    record { held = λ rows held e. rw (c .before .heads .ensures) (held-more (s .work .now) rows (s .bits) (s .n) (s .home) (t .pre .link) (t .pre .chain) e held) }
 
 pub insert-spec : {M : Type 1} → statement M
 insert-spec =

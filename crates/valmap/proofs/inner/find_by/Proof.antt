@@ -1,6 +1,6 @@
--- `valmap::inner::find` meets its contract: no slot from the entry on has the row, and links fall, so that the walk ends. Assumes nothing.
-use mathlib.Core.Path.{sym, _∙_}
-use Prim.Native.Nat.{_+_, _-_}
+-- `valmap::inner::find_by` meets its contract: no slot from the entry on has the row, and links fall, so that the walk ends. Assumes nothing.
+use mathlib.Core.Path.{_≡_, sym, ap, _∙_}
+use Prim.Native.Nat.{ℕ, _+_, _-_, _%_, _^_}
 use native.Mathlib.Omega.{arith}
 use borrow.Author.Needs.{needs}
 use lib.ListN.{getD}
@@ -9,20 +9,27 @@ use Rattle.arith.proofs.Refusals.{true-not-false}
 use Rattle.simd.proofs.Rows.{same-row-eq, same-row-of}
 use Rattle.valmap.specs.Map.{homeOf, Top}
 use Rattle.valmap.proofs.Walks.{Walk, walk-start, walk-on}
-use Rattle.valmap.proofs.inner.find.Statement.{statement}
-use Rattle.valmap.proofs.inner.find.Tie as tie
+use Rattle.valmap.proofs.inner.find_by.Statement.{statement}
+use Rattle.valmap.proofs.inner.find_by.Tie as tie
 
 abbrev Inv-loop : tie.InvT-loop
-Inv-loop work bits rows n row links chain entry₀ entry = Walk rows row bits n entry
+Inv-loop work bits rows n row print links home entry₀ entry = Walk rows row bits n entry
 
 abbrev μ-loop : tie.MeasureT-loop
-μ-loop work bits rows n row links chain entry₀ entry = entry
+μ-loop work bits rows n row print links home entry₀ entry = entry
 
 heads-requires : tie.Need-heads-requires Inv-loop μ-loop
 heads-requires c κs = search needs
 
-home-requires : tie.Need-home-requires Inv-loop μ-loop
-home-requires c κs = search needs
+home-of-requires : tie.Need-home-of-requires Inv-loop μ-loop
+home-of-requires c κs = search needs
+
+-- the chain is the row's
+homed : (c : tie.After-home-of Inv-loop μ-loop) → c .home-of .result ≡ homeOf (c .before .before .before .before .args .bits) (c .before .before .before .before .args .row)
+unfolding homeOf
+homed c =
+    let s = c .before .before .before .before in
+    c .home-of .ensures .0 ∙ ap (λ (x : ℕ). x % 2 ^ (s .args .bits)) (s .pre .1)
 
 cast-entry : tie.Need-cast-entry Inv-loop μ-loop
 cast-entry c = search needs
@@ -36,8 +43,8 @@ shared-slice-read-entry c = search needs
 loop-holds : tie.Need-loop-holds Inv-loop μ-loop
 loop-holds c =
     let s = c .before .before .before .before .before in
-    let h = c .before .home in
-    walk-start (s .args .rows .now) (s .args .row) (s .args .bits) (s .args .n) (h .result) _ (h .ensures .0) (s .pre .held .heads (h .result) (h .ensures .1))
+    let h = c .before .home-of in
+    walk-start (s .args .rows .now) (s .args .row) (s .args .bits) (s .args .n) (h .result) _ (homed (c .before)) (s .pre .0 .held .heads (h .result) (h .ensures .1))
 
 sub-slot : tie.Need-sub-slot Inv-loop μ-loop
 sub-slot c = search needs
@@ -78,7 +85,7 @@ link : (c : tie.After-shared-slice-known4 Inv-loop μ-loop) →
 link c =
     let t = c .before .before .before .before in
     let s = t .before .before .before .before .before .before in
-    rw (t .before .before .before .heads .ensures) (s .pre .held .links (t .loop .entry - 1) (omega (arith, t .loop .inv .within)))
+    rw (t .before .before .before .heads .ensures) (s .pre .0 .held .links (t .loop .entry - 1) (omega (arith, t .loop .inv .within)))
 
 loop-less : tie.Need-loop-less Inv-loop μ-loop
 loop-less c =
@@ -98,17 +105,17 @@ loop-again c =
 returns-2 : tie.Need-returns-2 Inv-loop μ-loop
 returns-2 c =
     let t = c .before in
-    let h = t .before .before .home .ensures in
-    record { none = λ k lt. t .loop .inv .none k (omega arith) lt; home = h .0; small = h .1 }
+    let h = t .before .before in
+    record { none = λ k lt. t .loop .inv .none k (omega arith) lt; home = homed h; small = h .home-of .ensures .1 }
 
-pub find-spec : {M : Type 1} → statement M
-find-spec =
+pub find-by-spec : {M : Type 1} → statement M
+find-by-spec =
     tie.close
     (tie.spec
     Inv-loop
     μ-loop
     heads-requires
-    home-requires
+    home-of-requires
     cast-entry
     mul-entry
     shared-slice-read-entry
