@@ -93,25 +93,28 @@ top-agree rows rows′ bits n h v same top = record {
   newest = λ t le lt e. top .newest t le lt (ap (homeOf bits) (same t lt) ∙ e);
 }
 
-pub held-agree : (work rows rows′ : List ℕ) (bits n : ℕ) → ((t : ℕ) → t < n → partAt 16 rows t ≡ partAt 16 rows′ t) → Held work rows bits n → Held work rows′ bits n
-held-agree work rows rows′ bits n same held = record {
+pub held-agree : {work rows : List ℕ} {bits n : ℕ} (rows′ : List ℕ) → ((t : ℕ) → t < n → partAt 16 rows t ≡ partAt 16 rows′ t)
+    → Held work rows bits n → Held work rows′ bits n
+held-agree {work} {rows} {bits} {n} rows′ same held = record {
   heads = λ h l. top-agree rows rows′ bits n h _ same (held .heads h l);
   links = λ t l. subst (λ (k : ℕ). Top rows′ bits t k (getD work (2 ^ bits + t) 0)) (ap (homeOf bits) (same t l))
       (top-agree rows rows′ bits t _ _ (λ u lu. same u (omega arith)) (held .links t l));
 }
 
 -- a row written at n or later
-pub held-put : (work rows : List ℕ) (bits n k : ℕ) (row : List ℕ) → n ≤ k → 16 * k + 16 ≤ length rows → length row ≡ 16
-    → Held work rows bits n → Held work (putPart 16 rows k row) bits n
-held-put work rows bits n k row later fits long held =
-    held-agree work rows (putPart 16 rows k row) bits n (λ t l. sym (part-put-other 16 rows k row fits long t (inl (omega arith)))) held
+pub held-put : {work rows : List ℕ} {bits n : ℕ} (k : ℕ) (row : List ℕ) {rows′ : List ℕ} → n ≤ k → 16 * k + 16 ≤ length rows → length row ≡ 16
+    → rows′ ≡ putPart 16 rows k row → Held work rows bits n → Held work rows′ bits n
+held-put {work} {rows} {bits} {n} k row {rows′} later fits long e held =
+    held-agree rows′
+    (λ t l. sym (part-put-other 16 rows k row fits long t (inl (omega arith))) ∙ ap (λ (z : List ℕ). partAt 16 z t) (sym e))
+    held
 
--- a row written at n and inserted, in either order
-pub held-put-insert : (work work′ rows : List ℕ) (bits n h : ℕ) (row : List ℕ) → 16 * n + 16 ≤ length rows → length row ≡ 16 → h ≡ homeOf bits row
-    → Inserted work work′ bits n h → Held work rows bits n → Held work′ (putPart 16 rows n row) bits (n + 1)
-held-put-insert work work′ rows bits n h row fits long e step held =
-    step .held (putPart 16 rows n row) (held-put work rows bits n n row (omega arith) fits long held)
-    (e ∙ ap (homeOf bits) (sym (part-put-same 16 rows n row fits long)))
+-- a row written at n and slot n inserted, in either order
+pub held-put-insert : {work work′ rows : List ℕ} {bits n h : ℕ} (row : List ℕ) {rows′ : List ℕ} → 16 * n + 16 ≤ length rows → length row ≡ 16
+    → rows′ ≡ putPart 16 rows n row → h ≡ homeOf bits row → Inserted work work′ bits n h → Held work rows bits n → Held work′ rows′ bits (n + 1)
+held-put-insert {work} {work′} {rows} {bits} {n} {h} row {rows′} fits long e home step held =
+    step .held rows′ (held-put n row (omega arith) fits long e held)
+    (home ∙ ap (homeOf bits) (sym (ap (λ (z : List ℕ). partAt 16 z n) e ∙ part-put-same 16 rows n row fits long)))
 
 -- ---- what a caller of `find` learns in each arm of a match on its answer
 pub lookup-at : (bits : ℕ) {n s : ℕ} {rows row : List ℕ} {r : Lookup} → r ≡ At s → FindOk bits rows n row r → Hit rows n row s
