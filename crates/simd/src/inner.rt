@@ -1,8 +1,10 @@
-// What the crates above call with a width that they have tested.
+// What the crates above call with a width, a slot or a part that they have tested.
 use crate::Gate;
 use crate::ROW_WORDS;
 ghost use mathlib.Core.Path.{_≡_};
-ghost use Prim.Native.Nat.{_≤_};
+ghost use Prim.Native.Nat.{_+_, _*_, _≤_};
+ghost use lib.ListN.{length};
+ghost use Rattle.arith.specs.Parts.{partAt};
 ghost use Rattle.simd.specs.Gates.{gateOf, gateRow, residualOf, residualRow, sameRow};
 
 // One place of a gate.
@@ -70,6 +72,49 @@ pub fn row_matches(a: [u64; 16], b: [u64; 16], target: [u64; 16], g: Gate, w: u3
             return false;
         }
         place += 1;
+    }
+    true
+}
+
+// Row `slot` of lent rows.
+pub fn load_row(rows: &[u64], slot: usize) -> [u64; 16]
+    requires { ⌜ 16 * slot + 16 ≤ length (now rows) ⌝ }
+    ensures { λ r. ⌜ r ≡ partAt 16 (now (rows .entry)) slot ⌝ }
+{
+    let base = ROW_WORDS * slot;
+    let mut row = [0u64; ROW_WORDS];
+    let mut i: usize = 0;
+    while i < ROW_WORDS {
+        row[i] = rows[base + i];
+        i += 1;
+    }
+    row
+}
+
+// The row writer: a slot's own sixteen words, `&mut rows[16 * slot..16 * slot + 16]`, are lent to it.
+pub fn write_row(part: &mut [u64], row: [u64; 16])
+    requires { ⌜ length (now part) ≡ 16 ⌝ }
+    ensures { λ _. ⌜ now (part .exit) ≡ row ⌝ }
+{
+    let mut i: usize = 0;
+    while i < ROW_WORDS {
+        part[i] = row[i];
+        i += 1;
+    }
+}
+
+// Whether row `slot` of lent rows is `row`, in all sixteen words. Stops at the first that differs.
+pub fn same_row(rows: &[u64], slot: usize, row: [u64; 16]) -> bool
+    requires { ⌜ 16 * slot + 16 ≤ length (now rows) ⌝ }
+    ensures { λ r. ⌜ r ≡ sameRow (partAt 16 (now (rows .entry)) slot) row ⌝ }
+{
+    let base = ROW_WORDS * slot;
+    let mut i: usize = 0;
+    while i < ROW_WORDS {
+        if rows[base + i] != row[i] {
+            return false;
+        }
+        i += 1;
     }
     true
 }
