@@ -110,3 +110,8 @@ module _ (ops operands : List ℕ) where
   tokens-drop n i h =
       drop-cons (tokens n ops operands) i Bad (omega (arith, tokens-length n))
       ∙ ap (λ (t : Token). t ∷ drop (suc i) (tokens n ops operands)) (tokens-at n i h)
+
+  -- the same, with the code's `i + 1`
+  pub tokens-next : (n i : ℕ) (t : Token) → i < n → tokenAt ops operands i ≡ t → drop i (tokens n ops operands) ≡ t ∷ drop (i + 1) (tokens n ops operands)
+  tokens-next n i t h e =
+      tokens-drop n i h ∙ ap₂ (λ (x : Token) (j : ℕ). x ∷ drop j (tokens n ops operands)) e (sym (add-one i))

@@ -6,7 +6,7 @@ use crate::Token;
 use simd::Gate;
 ghost use mathlib.Core.Path.{_≡_};
 ghost use mathlib.Core.Bool.{_||_};
-ghost use Prim.Native.Nat.{max};
+ghost use Prim.Native.Nat.{_≤_, max};
 ghost use Rattle.expr.specs.Formula.{tokens, known, valueOf};
 ghost use Rattle.expr.specs.Cost.{leafInfo, underUnary, underGate, isNonlinear, infoUnary, infoGate, infoOf, Roomy};
 ghost use Rattle.expr.specs.Span.{arity, back, spanOf, Span, Evaluable};
@@ -74,6 +74,7 @@ pub fn eval_tokens(w: u32, count: usize, ops: &[u8], operands: &[u64], words: &[
 
 // Where the formula that ends before `end` begins.
 pub fn span_start(ops: &[u8], operands: &[u64], end: usize) -> usize
+    requires { ⌜ end ≤ 64 ⌝ }
     ensures { λ r. ⌜ r ≡ back (now (ops .entry)) (now (operands .entry)) end 1 ⌝ }
 {
     let mut i = end;

@@ -1,244 +1,399 @@
-use borrow.Author.Needs.{needs}
+-- `expr::inner::eval_tokens` meets its contract: reading the rest over what the array holds gives the value. Assumes nothing.
+use mathlib.Core.Path.{sym, ap, _∙_}
+use mathlib.Core.Logic.{inl, inr}
+use Prim.Native.Nat.{ℕ, _-_, _%_}
 use native.Mathlib.Omega.{arith}
+use borrow.Author.Needs.{needs}
+use lib.ListN.{getD}
+use Rattle.arith.specs.Word.{notOf, negOf}
+use Rattle.arith.proofs.Remainders.{modulus-is}
+use Rattle.expr.specs.Formula.{tokens}
+use Rattle.expr.proofs.Tokens.{tokens-length, tokens-next}
+use Rattle.expr.proofs.Stack.{Stage, stage-start, stage-end, stage-constant, stage-variable, stage-not, stage-neg, stage-gate, stage-unary, stage-binary, stage-bad, stage-word}
+use mathlib.Core.Path.{sym, ap, _∙_}
 use Rattle.expr.proofs.inner.eval_tokens.Statement.{statement}
 use Rattle.expr.proofs.inner.eval_tokens.Tie as tie
-use Rattle.expr.proofs.inner.eval_tokens.Reads as reads
-use Rattle.expr.proofs.inner.eval_tokens.Lts as lts
-use Rattle.arith.proofs.mod_neg.Reads as mod-neg-reads
-use Rattle.arith.proofs.mod_not.Reads as mod-not-reads
-use Rattle.arith.proofs.reduce.Reads as reduce-reads
-use Rattle.expr.proofs.token_at.Reads as token-at-reads
-use Rattle.simd.proofs.inner.gate_apply_lane.Reads as gate-apply-lane-reads
 
 abbrev Inv-loop : tie.InvT-loop
-Inv-loop w count ops operands words stack₀ sp₀ i₀ stack sp i = ?
+Inv-loop w count ops operands words stack₀ sp₀ i₀ stack sp i = Stage w words (tokens count ops operands) stack sp i
 
 abbrev μ-loop : tie.MeasureT-loop
-μ-loop w count ops operands words stack₀ sp₀ i₀ stack sp i = ?
+μ-loop w count ops operands words stack₀ sp₀ i₀ stack sp i = count - i
 
--- src/inner.rt:50:5
 loop-holds : tie.Need-loop-holds Inv-loop μ-loop
-loop-holds c = search needs
+loop-holds c =
+    let s = c .before .before .before .args in
+    stage-start (s .w) (s .words .now) (tokens (s .count) (s .ops .now) (s .operands .now)) _ (search needs) (c .before .before .before .pre .formula)
 
--- src/inner.rt:51:13
 token-at-requires : tie.Need-token-at-requires Inv-loop μ-loop
 token-at-requires c κs = search needs
 
--- src/inner.rt:52:9
 add-i : tie.Need-add-i Inv-loop μ-loop
 add-i c = search needs
 
--- src/inner.rt:54:29
 enum-known-t : tie.Need-enum-known-t Inv-loop μ-loop
 enum-known-t c = search needs
 
--- src/inner.rt:55:29
 reduce-requires : tie.Need-reduce-requires Inv-loop μ-loop
 reduce-requires c κs = search needs
 
--- src/inner.rt:55:17
 mul-stack : tie.Need-mul-stack Inv-loop μ-loop
-mul-stack c = search needs
+mul-stack c =
+    let s = c .before .before .before .before .before .before .before .before .before .before .args in
+    let l = c .before .before .before .before .before .before .loop in
+    let st = l .inv in
+    let n = tokens-length (s .ops .now) (s .operands .now) (s .count) in
+    record { fits = omega arith }
 
--- src/inner.rt:55:17
 array-write-stack : tie.Need-array-write-stack Inv-loop μ-loop
-array-write-stack c = search needs
+array-write-stack c =
+    let s = c .before .before .before .before .before .before .before .before .before .before .args in
+    let l = c .before .before .before .before .before .before .loop in
+    let st = l .inv in
+    let n = tokens-length (s .ops .now) (s .operands .now) (s .count) in
+    omega arith
 
--- src/inner.rt:56:17
 add-sp : tie.Need-add-sp Inv-loop μ-loop
-add-sp c = search needs
+add-sp c =
+    let s = c .before .before .before .before .before .before .before .before .before .before .args in
+    let l = c .before .before .before .before .before .before .loop in
+    let st = l .inv in
+    let n = tokens-length (s .ops .now) (s .operands .now) (s .count) in
+    record { fits = omega arith }
 
--- src/inner.rt:50:5
 loop-less : tie.Need-loop-less Inv-loop μ-loop
-loop-less c = search needs
+loop-less c = omega arith
 
--- src/inner.rt:50:5
 loop-again : tie.Need-loop-again Inv-loop μ-loop
-loop-again c = search needs
+loop-again c =
+    let s = c .before .before .before .before .before .before .before .before .before .before .args in
+    let l = c .before .before .before .before .before .before .loop in
+    let st = l .inv in
+    let n = tokens-length (s .ops .now) (s .operands .now) (s .count) in
+    stage-constant (s .w) (s .words .now) (tokens (s .count) (s .ops .now) (s .operands .now)) (l .stack) (l .sp) (l .i) (l .inv) (omega arith) (c .before .before .before .before .token-at .result) (tokens-next (s .ops .now) (s .operands .now) (s .count) (l .i) (c .before .before .before .before .token-at .result) (omega arith) (sym (c .before .before .before .before .token-at .ensures))) (c .reduce .result) _ (c .before .before .t .given .1) (c .reduce .ensures ∙ ap (λ (m : ℕ). (c .before .before .t .given .0 .0) % m) (modulus-is (s .w) (c .before .before .before .before .before .before .before .before .before .before .pre .width)))
 
--- src/inner.rt:58:29
 enum-known-t-2 : tie.Need-enum-known-t-2 Inv-loop μ-loop
 enum-known-t-2 c = search needs
 
--- src/inner.rt:60:43
 mul-reduce : tie.Need-mul-reduce Inv-loop μ-loop
-mul-reduce c = search needs
+mul-reduce c =
+    let s = c .before .before .before .before .before .before .before .before .before .args in
+    let l = c .before .before .before .before .before .loop in
+    let st = l .inv in
+    let n = tokens-length (s .ops .now) (s .operands .now) (s .count) in
+    let word = stage-word (s .w) (s .words .now) (tokens (s .count) (s .ops .now) (s .operands .now)) (l .stack) (l .sp) (l .i) (l .inv) (omega arith) (c .before .before .before .token-at .result) (tokens-next (s .ops .now) (s .operands .now) (s .count) (l .i) (c .before .before .before .token-at .result) (omega arith) (sym (c .before .before .before .token-at .ensures))) _ (c .before .t2 .given .1) in
+    record { fits = omega arith }
 
--- src/inner.rt:60:43
 shared-slice-read-reduce : tie.Need-shared-slice-read-reduce Inv-loop μ-loop
-shared-slice-read-reduce c = search needs
+shared-slice-read-reduce c =
+    let s = c .before .before .before .before .before .before .before .before .before .before .args in
+    let l = c .before .before .before .before .before .before .loop in
+    let st = l .inv in
+    let n = tokens-length (s .ops .now) (s .operands .now) (s .count) in
+    stage-word (s .w) (s .words .now) (tokens (s .count) (s .ops .now) (s .operands .now)) (l .stack) (l .sp) (l .i) (l .inv) (omega arith) (c .before .before .before .before .token-at .result) (tokens-next (s .ops .now) (s .operands .now) (s .count) (l .i) (c .before .before .before .before .token-at .result) (omega arith) (sym (c .before .before .before .before .token-at .ensures))) _ (c .before .before .t2 .given .1)
 
--- src/inner.rt:60:29
 reduce-requires-2 : tie.Need-reduce-requires-2 Inv-loop μ-loop
 reduce-requires-2 c κs = search needs
 
--- src/inner.rt:60:17
 mul-stack-2 : tie.Need-mul-stack-2 Inv-loop μ-loop
-mul-stack-2 c = search needs
+mul-stack-2 c =
+    let s = c .before .before .before .before .before .before .before .before .before .before .before .args in
+    let l = c .before .before .before .before .before .before .before .loop in
+    let st = l .inv in
+    let n = tokens-length (s .ops .now) (s .operands .now) (s .count) in
+    record { fits = omega arith }
 
--- src/inner.rt:60:17
 array-write-stack-2 : tie.Need-array-write-stack-2 Inv-loop μ-loop
-array-write-stack-2 c = search needs
+array-write-stack-2 c =
+    let s = c .before .before .before .before .before .before .before .before .before .before .before .args in
+    let l = c .before .before .before .before .before .before .before .loop in
+    let st = l .inv in
+    let n = tokens-length (s .ops .now) (s .operands .now) (s .count) in
+    omega arith
 
--- src/inner.rt:61:17
 add-sp-2 : tie.Need-add-sp-2 Inv-loop μ-loop
-add-sp-2 c = search needs
+add-sp-2 c =
+    let s = c .before .before .before .before .before .before .before .before .before .before .before .args in
+    let l = c .before .before .before .before .before .before .before .loop in
+    let st = l .inv in
+    let n = tokens-length (s .ops .now) (s .operands .now) (s .count) in
+    record { fits = omega arith }
 
--- src/inner.rt:50:5
 loop-less-2 : tie.Need-loop-less-2 Inv-loop μ-loop
-loop-less-2 c = search needs
+loop-less-2 c = omega arith
 
--- src/inner.rt:50:5
 loop-again-2 : tie.Need-loop-again-2 Inv-loop μ-loop
-loop-again-2 c = search needs
+loop-again-2 c =
+    let s = c .before .before .before .before .before .before .before .before .before .before .before .args in
+    let l = c .before .before .before .before .before .before .before .loop in
+    let st = l .inv in
+    let n = tokens-length (s .ops .now) (s .operands .now) (s .count) in
+    stage-variable (s .w) (s .words .now) (tokens (s .count) (s .ops .now) (s .operands .now)) (l .stack) (l .sp) (l .i) (l .inv) (omega arith) (c .before .before .before .before .before .token-at .result) (tokens-next (s .ops .now) (s .operands .now) (s .count) (l .i) (c .before .before .before .before .before .token-at .result) (omega arith) (sym (c .before .before .before .before .before .token-at .ensures))) (c .reduce2 .result) _ (c .before .before .before .t2 .given .1) (c .reduce2 .ensures ∙ ap (λ (m : ℕ). getD (s .words .now) (c .before .before .before .t2 .given .0 .0) 0 % m) (modulus-is (s .w) (c .before .before .before .before .before .before .before .before .before .before .before .pre .width)))
 
--- src/inner.rt:63:27
 enum-known-t-3 : tie.Need-enum-known-t-3 Inv-loop μ-loop
 enum-known-t-3 c = search needs
 
--- src/inner.rt:64:17
 sub-sp : tie.Need-sub-sp Inv-loop μ-loop
-sub-sp c = search needs
+sub-sp c =
+    let s = c .before .before .before .before .before .before .before .before .before .args in
+    let l = c .before .before .before .before .before .loop in
+    let st = l .inv in
+    let n = tokens-length (s .ops .now) (s .operands .now) (s .count) in
+    let two = stage-binary (s .w) (s .words .now) (tokens (s .count) (s .ops .now) (s .operands .now)) (l .stack) (l .sp) (l .i) (l .inv) (omega arith) (c .before .before .before .token-at .result) (tokens-next (s .ops .now) (s .operands .now) (s .count) (l .i) (c .before .before .before .token-at .result) (omega arith) (sym (c .before .before .before .token-at .ensures))) _ (c .before .t3 .given .1) in
+    omega arith
 
--- src/inner.rt:65:68
 sub-gate-apply-lane : tie.Need-sub-gate-apply-lane Inv-loop μ-loop
-sub-gate-apply-lane c = search needs
+sub-gate-apply-lane c =
+    let s = c .before .before .before .before .before .before .before .before .before .args in
+    let l = c .before .before .before .before .before .loop in
+    let st = l .inv in
+    let n = tokens-length (s .ops .now) (s .operands .now) (s .count) in
+    let two = stage-binary (s .w) (s .words .now) (tokens (s .count) (s .ops .now) (s .operands .now)) (l .stack) (l .sp) (l .i) (l .inv) (omega arith) (c .before .before .before .token-at .result) (tokens-next (s .ops .now) (s .operands .now) (s .count) (l .i) (c .before .before .before .token-at .result) (omega arith) (sym (c .before .before .before .token-at .ensures))) _ (c .before .t3 .given .1) in
+    omega arith
 
--- src/inner.rt:65:62
 mul-gate-apply-lane : tie.Need-mul-gate-apply-lane Inv-loop μ-loop
-mul-gate-apply-lane c = search needs
+mul-gate-apply-lane c =
+    let s = c .before .before .before .before .before .before .before .before .before .args in
+    let l = c .before .before .before .before .before .loop in
+    let st = l .inv in
+    let n = tokens-length (s .ops .now) (s .operands .now) (s .count) in
+    let two = stage-binary (s .w) (s .words .now) (tokens (s .count) (s .ops .now) (s .operands .now)) (l .stack) (l .sp) (l .i) (l .inv) (omega arith) (c .before .before .before .token-at .result) (tokens-next (s .ops .now) (s .operands .now) (s .count) (l .i) (c .before .before .before .token-at .result) (omega arith) (sym (c .before .before .before .token-at .ensures))) _ (c .before .t3 .given .1) in
+    record { fits = omega arith }
 
--- src/inner.rt:65:62
 array-read-gate-apply-lane : tie.Need-array-read-gate-apply-lane Inv-loop μ-loop
-array-read-gate-apply-lane c = search needs
+array-read-gate-apply-lane c =
+    let s = c .before .before .before .before .before .before .before .before .before .args in
+    let l = c .before .before .before .before .before .loop in
+    let st = l .inv in
+    let n = tokens-length (s .ops .now) (s .operands .now) (s .count) in
+    let two = stage-binary (s .w) (s .words .now) (tokens (s .count) (s .ops .now) (s .operands .now)) (l .stack) (l .sp) (l .i) (l .inv) (omega arith) (c .before .before .before .token-at .result) (tokens-next (s .ops .now) (s .operands .now) (s .count) (l .i) (c .before .before .before .token-at .result) (omega arith) (sym (c .before .before .before .token-at .ensures))) _ (c .before .t3 .given .1) in
+    omega arith
 
--- src/inner.rt:65:77
 mul-gate-apply-lane-2 : tie.Need-mul-gate-apply-lane-2 Inv-loop μ-loop
-mul-gate-apply-lane-2 c = search needs
+mul-gate-apply-lane-2 c =
+    let s = c .before .before .before .before .before .before .before .before .before .args in
+    let l = c .before .before .before .before .before .loop in
+    let st = l .inv in
+    let n = tokens-length (s .ops .now) (s .operands .now) (s .count) in
+    let two = stage-binary (s .w) (s .words .now) (tokens (s .count) (s .ops .now) (s .operands .now)) (l .stack) (l .sp) (l .i) (l .inv) (omega arith) (c .before .before .before .token-at .result) (tokens-next (s .ops .now) (s .operands .now) (s .count) (l .i) (c .before .before .before .token-at .result) (omega arith) (sym (c .before .before .before .token-at .ensures))) _ (c .before .t3 .given .1) in
+    record { fits = omega arith }
 
--- src/inner.rt:65:77
 array-read-gate-apply-lane-2 : tie.Need-array-read-gate-apply-lane-2 Inv-loop μ-loop
-array-read-gate-apply-lane-2 c = search needs
+array-read-gate-apply-lane-2 c =
+    let s = c .before .before .before .before .before .before .before .before .before .args in
+    let l = c .before .before .before .before .before .loop in
+    let st = l .inv in
+    let n = tokens-length (s .ops .now) (s .operands .now) (s .count) in
+    let two = stage-binary (s .w) (s .words .now) (tokens (s .count) (s .ops .now) (s .operands .now)) (l .stack) (l .sp) (l .i) (l .inv) (omega arith) (c .before .before .before .token-at .result) (tokens-next (s .ops .now) (s .operands .now) (s .count) (l .i) (c .before .before .before .token-at .result) (omega arith) (sym (c .before .before .before .token-at .ensures))) _ (c .before .t3 .given .1) in
+    omega arith
 
--- src/inner.rt:65:33
 gate-apply-lane-requires : tie.Need-gate-apply-lane-requires Inv-loop μ-loop
-gate-apply-lane-requires c κs = search needs
+gate-apply-lane-requires c κs = c .before .before .before .before .before .before .before .before .before .pre .width
 
--- src/inner.rt:65:23
 sub-stack : tie.Need-sub-stack Inv-loop μ-loop
-sub-stack c = search needs
+sub-stack c =
+    let s = c .before .before .before .before .before .before .before .before .before .before .args in
+    let l = c .before .before .before .before .before .before .loop in
+    let st = l .inv in
+    let n = tokens-length (s .ops .now) (s .operands .now) (s .count) in
+    let two = stage-binary (s .w) (s .words .now) (tokens (s .count) (s .ops .now) (s .operands .now)) (l .stack) (l .sp) (l .i) (l .inv) (omega arith) (c .before .before .before .before .token-at .result) (tokens-next (s .ops .now) (s .operands .now) (s .count) (l .i) (c .before .before .before .before .token-at .result) (omega arith) (sym (c .before .before .before .before .token-at .ensures))) _ (c .before .before .t3 .given .1) in
+    omega arith
 
--- src/inner.rt:65:17
 mul-stack-3 : tie.Need-mul-stack-3 Inv-loop μ-loop
-mul-stack-3 c = search needs
+mul-stack-3 c =
+    let s = c .before .before .before .before .before .before .before .before .before .before .args in
+    let l = c .before .before .before .before .before .before .loop in
+    let st = l .inv in
+    let n = tokens-length (s .ops .now) (s .operands .now) (s .count) in
+    let two = stage-binary (s .w) (s .words .now) (tokens (s .count) (s .ops .now) (s .operands .now)) (l .stack) (l .sp) (l .i) (l .inv) (omega arith) (c .before .before .before .before .token-at .result) (tokens-next (s .ops .now) (s .operands .now) (s .count) (l .i) (c .before .before .before .before .token-at .result) (omega arith) (sym (c .before .before .before .before .token-at .ensures))) _ (c .before .before .t3 .given .1) in
+    record { fits = omega arith }
 
--- src/inner.rt:65:17
 array-write-stack-3 : tie.Need-array-write-stack-3 Inv-loop μ-loop
-array-write-stack-3 c = search needs
+array-write-stack-3 c =
+    let s = c .before .before .before .before .before .before .before .before .before .before .args in
+    let l = c .before .before .before .before .before .before .loop in
+    let st = l .inv in
+    let n = tokens-length (s .ops .now) (s .operands .now) (s .count) in
+    let two = stage-binary (s .w) (s .words .now) (tokens (s .count) (s .ops .now) (s .operands .now)) (l .stack) (l .sp) (l .i) (l .inv) (omega arith) (c .before .before .before .before .token-at .result) (tokens-next (s .ops .now) (s .operands .now) (s .count) (l .i) (c .before .before .before .before .token-at .result) (omega arith) (sym (c .before .before .before .before .token-at .ensures))) _ (c .before .before .t3 .given .1) in
+    omega arith
 
--- src/inner.rt:50:5
 loop-less-3 : tie.Need-loop-less-3 Inv-loop μ-loop
-loop-less-3 c = search needs
+loop-less-3 c = omega arith
 
--- src/inner.rt:50:5
 loop-again-3 : tie.Need-loop-again-3 Inv-loop μ-loop
-loop-again-3 c = search needs
+loop-again-3 c =
+    let s = c .before .before .before .before .before .before .before .before .before .before .args in
+    let l = c .before .before .before .before .before .before .loop in
+    let st = l .inv in
+    let n = tokens-length (s .ops .now) (s .operands .now) (s .count) in
+    let two = stage-binary (s .w) (s .words .now) (tokens (s .count) (s .ops .now) (s .operands .now)) (l .stack) (l .sp) (l .i) (l .inv) (omega arith) (c .before .before .before .before .token-at .result) (tokens-next (s .ops .now) (s .operands .now) (s .count) (l .i) (c .before .before .before .before .token-at .result) (omega arith) (sym (c .before .before .before .before .token-at .ensures))) _ (c .before .before .t3 .given .1) in
+    stage-gate (s .w) (s .words .now) (tokens (s .count) (s .ops .now) (s .operands .now)) (l .stack) (l .sp) (l .i) (l .inv) (omega arith) (c .before .before .before .before .token-at .result) (tokens-next (s .ops .now) (s .operands .now) (s .count) (l .i) (c .before .before .before .before .token-at .result) (omega arith) (sym (c .before .before .before .before .token-at .ensures))) (c .gate-apply-lane .result) (l .sp - 1) (l .sp - 1 - 1) (omega arith) (omega arith) _ (c .before .before .t3 .given .1) (c .gate-apply-lane .ensures)
 
--- src/inner.rt:67:64
 enum-told : tie.Need-enum-told Inv-loop μ-loop
 enum-told c = search needs
 
--- src/inner.rt:67:64
 sub-mod-not : tie.Need-sub-mod-not Inv-loop μ-loop
-sub-mod-not c = search needs
+sub-mod-not c =
+    let s = c .before .before .before .before .before .before .before .before .args in
+    let l = c .before .before .before .before .loop in
+    let st = l .inv in
+    let n = tokens-length (s .ops .now) (s .operands .now) (s .count) in
+    let one = stage-unary (s .w) (s .words .now) (tokens (s .count) (s .ops .now) (s .operands .now)) (l .stack) (l .sp) (l .i) (l .inv) (omega arith) (c .before .before .token-at .result) (tokens-next (s .ops .now) (s .operands .now) (s .count) (l .i) (c .before .before .token-at .result) (omega arith) (sym (c .before .before .token-at .ensures))) (inl (c .enum-told .given .1)) in
+    omega arith
 
--- src/inner.rt:67:58
 mul-mod-not : tie.Need-mul-mod-not Inv-loop μ-loop
-mul-mod-not c = search needs
+mul-mod-not c =
+    let s = c .before .before .before .before .before .before .before .before .args in
+    let l = c .before .before .before .before .loop in
+    let st = l .inv in
+    let n = tokens-length (s .ops .now) (s .operands .now) (s .count) in
+    let one = stage-unary (s .w) (s .words .now) (tokens (s .count) (s .ops .now) (s .operands .now)) (l .stack) (l .sp) (l .i) (l .inv) (omega arith) (c .before .before .token-at .result) (tokens-next (s .ops .now) (s .operands .now) (s .count) (l .i) (c .before .before .token-at .result) (omega arith) (sym (c .before .before .token-at .ensures))) (inl (c .enum-told .given .1)) in
+    record { fits = omega arith }
 
--- src/inner.rt:67:58
 array-read-mod-not : tie.Need-array-read-mod-not Inv-loop μ-loop
-array-read-mod-not c = search needs
+array-read-mod-not c =
+    let s = c .before .before .before .before .before .before .before .before .args in
+    let l = c .before .before .before .before .loop in
+    let st = l .inv in
+    let n = tokens-length (s .ops .now) (s .operands .now) (s .count) in
+    let one = stage-unary (s .w) (s .words .now) (tokens (s .count) (s .ops .now) (s .operands .now)) (l .stack) (l .sp) (l .i) (l .inv) (omega arith) (c .before .before .token-at .result) (tokens-next (s .ops .now) (s .operands .now) (s .count) (l .i) (c .before .before .token-at .result) (omega arith) (sym (c .before .before .token-at .ensures))) (inl (c .enum-told .given .1)) in
+    omega arith
 
--- src/inner.rt:67:43
 mod-not-requires : tie.Need-mod-not-requires Inv-loop μ-loop
 mod-not-requires c κs = search needs
 
--- src/inner.rt:67:33
 sub-stack-2 : tie.Need-sub-stack-2 Inv-loop μ-loop
-sub-stack-2 c = search needs
+sub-stack-2 c =
+    let s = c .before .before .before .before .before .before .before .before .before .args in
+    let l = c .before .before .before .before .before .loop in
+    let st = l .inv in
+    let n = tokens-length (s .ops .now) (s .operands .now) (s .count) in
+    let one = stage-unary (s .w) (s .words .now) (tokens (s .count) (s .ops .now) (s .operands .now)) (l .stack) (l .sp) (l .i) (l .inv) (omega arith) (c .before .before .before .token-at .result) (tokens-next (s .ops .now) (s .operands .now) (s .count) (l .i) (c .before .before .before .token-at .result) (omega arith) (sym (c .before .before .before .token-at .ensures))) (inl (c .before .enum-told .given .1)) in
+    omega arith
 
--- src/inner.rt:67:27
 mul-stack-4 : tie.Need-mul-stack-4 Inv-loop μ-loop
-mul-stack-4 c = search needs
+mul-stack-4 c =
+    let s = c .before .before .before .before .before .before .before .before .before .args in
+    let l = c .before .before .before .before .before .loop in
+    let st = l .inv in
+    let n = tokens-length (s .ops .now) (s .operands .now) (s .count) in
+    let one = stage-unary (s .w) (s .words .now) (tokens (s .count) (s .ops .now) (s .operands .now)) (l .stack) (l .sp) (l .i) (l .inv) (omega arith) (c .before .before .before .token-at .result) (tokens-next (s .ops .now) (s .operands .now) (s .count) (l .i) (c .before .before .before .token-at .result) (omega arith) (sym (c .before .before .before .token-at .ensures))) (inl (c .before .enum-told .given .1)) in
+    record { fits = omega arith }
 
--- src/inner.rt:67:27
 array-write-stack-4 : tie.Need-array-write-stack-4 Inv-loop μ-loop
-array-write-stack-4 c = search needs
+array-write-stack-4 c =
+    let s = c .before .before .before .before .before .before .before .before .before .args in
+    let l = c .before .before .before .before .before .loop in
+    let st = l .inv in
+    let n = tokens-length (s .ops .now) (s .operands .now) (s .count) in
+    let one = stage-unary (s .w) (s .words .now) (tokens (s .count) (s .ops .now) (s .operands .now)) (l .stack) (l .sp) (l .i) (l .inv) (omega arith) (c .before .before .before .token-at .result) (tokens-next (s .ops .now) (s .operands .now) (s .count) (l .i) (c .before .before .before .token-at .result) (omega arith) (sym (c .before .before .before .token-at .ensures))) (inl (c .before .enum-told .given .1)) in
+    omega arith
 
--- src/inner.rt:50:5
 loop-less-4 : tie.Need-loop-less-4 Inv-loop μ-loop
-loop-less-4 c = search needs
+loop-less-4 c = omega arith
 
--- src/inner.rt:50:5
 loop-again-4 : tie.Need-loop-again-4 Inv-loop μ-loop
-loop-again-4 c = search needs
+loop-again-4 c =
+    let s = c .before .before .before .before .before .before .before .before .before .args in
+    let l = c .before .before .before .before .before .loop in
+    let st = l .inv in
+    let n = tokens-length (s .ops .now) (s .operands .now) (s .count) in
+    let one = stage-unary (s .w) (s .words .now) (tokens (s .count) (s .ops .now) (s .operands .now)) (l .stack) (l .sp) (l .i) (l .inv) (omega arith) (c .before .before .before .token-at .result) (tokens-next (s .ops .now) (s .operands .now) (s .count) (l .i) (c .before .before .before .token-at .result) (omega arith) (sym (c .before .before .before .token-at .ensures))) (inl (c .before .enum-told .given .1)) in
+    stage-not (s .w) (s .words .now) (tokens (s .count) (s .ops .now) (s .operands .now)) (l .stack) (l .sp) (l .i) (l .inv) (omega arith) (c .before .before .before .token-at .result) (tokens-next (s .ops .now) (s .operands .now) (s .count) (l .i) (c .before .before .before .token-at .result) (omega arith) (sym (c .before .before .before .token-at .ensures))) (c .mod-not .result) (l .sp - 1) (omega arith) (c .before .enum-told .given .1) (c .mod-not .ensures ∙ ap (λ (m : ℕ). notOf m (getD (l .stack) (l .sp - 1) 0)) (modulus-is (s .w) (c .before .before .before .before .before .before .before .before .before .pre .width)))
 
--- src/inner.rt:68:64
 enum-told-2 : tie.Need-enum-told-2 Inv-loop μ-loop
 enum-told-2 c = search needs
 
--- src/inner.rt:68:64
 sub-mod-neg : tie.Need-sub-mod-neg Inv-loop μ-loop
-sub-mod-neg c = search needs
+sub-mod-neg c =
+    let s = c .before .before .before .before .before .before .before .before .args in
+    let l = c .before .before .before .before .loop in
+    let st = l .inv in
+    let n = tokens-length (s .ops .now) (s .operands .now) (s .count) in
+    let one = stage-unary (s .w) (s .words .now) (tokens (s .count) (s .ops .now) (s .operands .now)) (l .stack) (l .sp) (l .i) (l .inv) (omega arith) (c .before .before .token-at .result) (tokens-next (s .ops .now) (s .operands .now) (s .count) (l .i) (c .before .before .token-at .result) (omega arith) (sym (c .before .before .token-at .ensures))) (inr (c .enum-told2 .given .1)) in
+    omega arith
 
--- src/inner.rt:68:58
 mul-mod-neg : tie.Need-mul-mod-neg Inv-loop μ-loop
-mul-mod-neg c = search needs
+mul-mod-neg c =
+    let s = c .before .before .before .before .before .before .before .before .args in
+    let l = c .before .before .before .before .loop in
+    let st = l .inv in
+    let n = tokens-length (s .ops .now) (s .operands .now) (s .count) in
+    let one = stage-unary (s .w) (s .words .now) (tokens (s .count) (s .ops .now) (s .operands .now)) (l .stack) (l .sp) (l .i) (l .inv) (omega arith) (c .before .before .token-at .result) (tokens-next (s .ops .now) (s .operands .now) (s .count) (l .i) (c .before .before .token-at .result) (omega arith) (sym (c .before .before .token-at .ensures))) (inr (c .enum-told2 .given .1)) in
+    record { fits = omega arith }
 
--- src/inner.rt:68:58
 array-read-mod-neg : tie.Need-array-read-mod-neg Inv-loop μ-loop
-array-read-mod-neg c = search needs
+array-read-mod-neg c =
+    let s = c .before .before .before .before .before .before .before .before .args in
+    let l = c .before .before .before .before .loop in
+    let st = l .inv in
+    let n = tokens-length (s .ops .now) (s .operands .now) (s .count) in
+    let one = stage-unary (s .w) (s .words .now) (tokens (s .count) (s .ops .now) (s .operands .now)) (l .stack) (l .sp) (l .i) (l .inv) (omega arith) (c .before .before .token-at .result) (tokens-next (s .ops .now) (s .operands .now) (s .count) (l .i) (c .before .before .token-at .result) (omega arith) (sym (c .before .before .token-at .ensures))) (inr (c .enum-told2 .given .1)) in
+    omega arith
 
--- src/inner.rt:68:43
 mod-neg-requires : tie.Need-mod-neg-requires Inv-loop μ-loop
 mod-neg-requires c κs = search needs
 
--- src/inner.rt:68:33
 sub-stack-3 : tie.Need-sub-stack-3 Inv-loop μ-loop
-sub-stack-3 c = search needs
+sub-stack-3 c =
+    let s = c .before .before .before .before .before .before .before .before .before .args in
+    let l = c .before .before .before .before .before .loop in
+    let st = l .inv in
+    let n = tokens-length (s .ops .now) (s .operands .now) (s .count) in
+    let one = stage-unary (s .w) (s .words .now) (tokens (s .count) (s .ops .now) (s .operands .now)) (l .stack) (l .sp) (l .i) (l .inv) (omega arith) (c .before .before .before .token-at .result) (tokens-next (s .ops .now) (s .operands .now) (s .count) (l .i) (c .before .before .before .token-at .result) (omega arith) (sym (c .before .before .before .token-at .ensures))) (inr (c .before .enum-told2 .given .1)) in
+    omega arith
 
--- src/inner.rt:68:27
 mul-stack-5 : tie.Need-mul-stack-5 Inv-loop μ-loop
-mul-stack-5 c = search needs
+mul-stack-5 c =
+    let s = c .before .before .before .before .before .before .before .before .before .args in
+    let l = c .before .before .before .before .before .loop in
+    let st = l .inv in
+    let n = tokens-length (s .ops .now) (s .operands .now) (s .count) in
+    let one = stage-unary (s .w) (s .words .now) (tokens (s .count) (s .ops .now) (s .operands .now)) (l .stack) (l .sp) (l .i) (l .inv) (omega arith) (c .before .before .before .token-at .result) (tokens-next (s .ops .now) (s .operands .now) (s .count) (l .i) (c .before .before .before .token-at .result) (omega arith) (sym (c .before .before .before .token-at .ensures))) (inr (c .before .enum-told2 .given .1)) in
+    record { fits = omega arith }
 
--- src/inner.rt:68:27
 array-write-stack-5 : tie.Need-array-write-stack-5 Inv-loop μ-loop
-array-write-stack-5 c = search needs
+array-write-stack-5 c =
+    let s = c .before .before .before .before .before .before .before .before .before .args in
+    let l = c .before .before .before .before .before .loop in
+    let st = l .inv in
+    let n = tokens-length (s .ops .now) (s .operands .now) (s .count) in
+    let one = stage-unary (s .w) (s .words .now) (tokens (s .count) (s .ops .now) (s .operands .now)) (l .stack) (l .sp) (l .i) (l .inv) (omega arith) (c .before .before .before .token-at .result) (tokens-next (s .ops .now) (s .operands .now) (s .count) (l .i) (c .before .before .before .token-at .result) (omega arith) (sym (c .before .before .before .token-at .ensures))) (inr (c .before .enum-told2 .given .1)) in
+    omega arith
 
--- src/inner.rt:50:5
 loop-less-5 : tie.Need-loop-less-5 Inv-loop μ-loop
-loop-less-5 c = search needs
+loop-less-5 c = omega arith
 
--- src/inner.rt:50:5
 loop-again-5 : tie.Need-loop-again-5 Inv-loop μ-loop
-loop-again-5 c = search needs
+loop-again-5 c =
+    let s = c .before .before .before .before .before .before .before .before .before .args in
+    let l = c .before .before .before .before .before .loop in
+    let st = l .inv in
+    let n = tokens-length (s .ops .now) (s .operands .now) (s .count) in
+    let one = stage-unary (s .w) (s .words .now) (tokens (s .count) (s .ops .now) (s .operands .now)) (l .stack) (l .sp) (l .i) (l .inv) (omega arith) (c .before .before .before .token-at .result) (tokens-next (s .ops .now) (s .operands .now) (s .count) (l .i) (c .before .before .before .token-at .result) (omega arith) (sym (c .before .before .before .token-at .ensures))) (inr (c .before .enum-told2 .given .1)) in
+    stage-neg (s .w) (s .words .now) (tokens (s .count) (s .ops .now) (s .operands .now)) (l .stack) (l .sp) (l .i) (l .inv) (omega arith) (c .before .before .before .token-at .result) (tokens-next (s .ops .now) (s .operands .now) (s .count) (l .i) (c .before .before .before .token-at .result) (omega arith) (sym (c .before .before .before .token-at .ensures))) (c .mod-neg .result) (l .sp - 1) (omega arith) (c .before .enum-told2 .given .1) (c .mod-neg .ensures ∙ ap (λ (m : ℕ). negOf m (getD (l .stack) (l .sp - 1) 0)) (modulus-is (s .w) (c .before .before .before .before .before .before .before .before .before .pre .width)))
 
--- src/inner.rt:69:27
 enum-told-3 : tie.Need-enum-told-3 Inv-loop μ-loop
 enum-told-3 c = search needs
 
--- src/inner.rt:69:27
 returns : tie.Need-returns Inv-loop μ-loop
-returns c = search needs
+returns c =
+    let s = c .before .before .before .before .before .before .before .before .args in
+    let l = c .before .before .before .before .loop in
+    let st = l .inv in
+    let n = tokens-length (s .ops .now) (s .operands .now) (s .count) in
+    absurd (stage-bad (s .w) (s .words .now) (tokens (s .count) (s .ops .now) (s .operands .now)) (l .stack) (l .sp) (l .i) (l .inv) (omega arith) (c .before .before .token-at .result) (tokens-next (s .ops .now) (s .operands .now) (s .count) (l .i) (c .before .before .token-at .result) (omega arith) (sym (c .before .before .token-at .ensures))) (c .enum-told3 .given .1))
 
--- src/inner.rt:72:5
 array-read-result : tie.Need-array-read-result Inv-loop μ-loop
 array-read-result c = search needs
 
--- src/inner.rt:43:1
 returns-2 : tie.Need-returns-2 Inv-loop μ-loop
-returns-2 c = search needs
+returns-2 c =
+    let s = c .before .before .before .before .before .args in
+    let l = c .before .loop in
+    let st = l .inv in
+    let n = tokens-length (s .ops .now) (s .operands .now) (s .count) in
+    stage-end (s .w) (s .words .now) (tokens (s .count) (s .ops .now) (s .operands .now)) (l .stack) (l .sp) (l .i) (l .inv) (omega arith)
 
 pub eval-tokens-spec : {M : Type 1} → statement M
 eval-tokens-spec =
