@@ -6,7 +6,7 @@ use mathlib.Core.Option.{Option, none, some}
 use Prim.Native.Nat.{ℕ, zero, suc, _+_, _-_, _≤_, _<_}
 use native.Mathlib.Numerals.{add-one}
 use native.Mathlib.Omega.{arith}
-use borrow.Author.Tests.{lt-ltb, le-ltb, eq-eqb, ne-eqb}
+use borrow.Author.Tests.{lt-ltb, le-ltb, ne-eqb, ltb-true}
 use lib.Dec.{eqb, ltb}
 use lib.ListN.{length}
 use Rattle.arith.specs.Refusal.{outsideOf}
@@ -150,3 +150,24 @@ all-known-append nv (t ∷ ts) g = go (known nv t) (all-known-append nv ts g)
     go : (b : Bool) → allKnown nv (ts ++ g) ≡ (allKnown nv ts && allKnown nv g) → (b && allKnown nv (ts ++ g)) ≡ ((b && allKnown nv ts) && allKnown nv g)
     go true e = e
     go false e = refl
+
+-- more variables let more through
+known-more : (nv n : ℕ) → nv ≤ n → (t : Token) → known nv t ≡ true → known n t ≡ true
+unfolding known
+known-more nv n h (Constant k) e = refl
+known-more nv n h (Variable i) e = lt-ltb i n (omega (arith, ltb-true i nv e))
+known-more nv n h (Binary g) e = refl
+known-more nv n h Not e = refl
+known-more nv n h Neg e = refl
+known-more nv n h Bad e = e
+
+all-known-more : (nv n : ℕ) → nv ≤ n → (ts : List Token) → allKnown nv ts ≡ true → allKnown n ts ≡ true
+unfolding allKnown
+all-known-more nv n h [] e = refl
+all-known-more nv n h (t ∷ ts) e =
+    and-both (known-more nv n h t (and-left (known nv t) (allKnown nv ts) e)) (all-known-more nv n h ts (and-right (known nv t) (allKnown nv ts) e))
+
+pub formula-more : (nv n : ℕ) → nv ≤ n → (ts : List Token) → isFormula nv ts ≡ true → isFormula n ts ≡ true
+formula-more nv n h ts e =
+    let p = passed nv ts e in
+    passing n ts (p .least) (p .most) (all-known-more nv n h ts (p .all)) (p .one)

@@ -48,6 +48,9 @@ costRefusal nv count ops operands =
 abbrev pub costOr : ℕ → Cost → CostAnswer
 costOr number cost = record { refusal = number; cost = unlessRefused number cost noCost }
 
+abbrev pub refusedCost : ℕ → CostAnswer
+refusedCost number = record { refusal = number; cost = noCost }
+
 -- what `compute_cost` answers
 abbrev pub costed : ℕ → ℕ → List ℕ → List ℕ → CostAnswer
 costed nv count ops operands = costOr (costRefusal nv count ops operands) (costOf (tokens count ops operands))

@@ -4,8 +4,8 @@ pub mod inner;
 use simd::Gate;
 ghost use mathlib.Core.Path.{_≡_};
 ghost use Rattle.expr.specs.Formula.{tokenOf, tokenAt, tokens, known, isFormula};
-ghost use Rattle.expr.specs.Cost.{noCost, isBetter};
-ghost use Rattle.expr.specs.Answers.{tooShort, evaluated, valueSays, costed};
+ghost use Rattle.expr.specs.Cost.{isBetter};
+ghost use Rattle.expr.specs.Answers.{tooShort, evaluated, valueSays, refusedCost, costed};
 
 // The most tokens that a formula has.
 pub const MAX_TOKENS: usize = 64;
@@ -161,7 +161,7 @@ pub fn compute_cost(nv: u32, count: usize, ops: &[u8], operands: &[u64]) -> Cost
 }
 
 fn cost_refused(number: u32) -> CostAnswer
-    ensures { λ r. ⌜ (r .refusal ≡ number) × (r .cost ≡ noCost) ⌝ }
+    ensures { λ r. ⌜ r ≡ refusedCost number ⌝ }
 {
     let cost = Cost {
         size: 0,

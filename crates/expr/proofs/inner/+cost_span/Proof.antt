@@ -1,6 +1,19 @@
+-- `expr::inner::cost_span` meets its contract: a span is a tree written out, its operands are spans, and its token count falls. Assumes nothing.
+use mathlib.Core.Path.{_≡_, sym, ap, ap₂, _∙_, subst}
+use mathlib.Core.List.{List, [], _∷_}
+use mathlib.Core.Logic.{_⊎_, inl, inr}
+use Prim.Native.Nat.{ℕ, _<_, _-_}
+use types.Run.{OneOf}
+use denote.Enum.Declared.{tagOf}
+use Rattle.expr.specs.declared.Token.{Token}
+use Rattle.expr.specs.declared.Token.the-variants.{Constant, Variable, Binary, Not, Neg, Bad}
+use Rattle.expr.specs.declared.CostInfo.{CostInfo}
+use Rattle.expr.specs.Cost.{Roomy, infoUnary, infoGate}
+use Rattle.expr.specs.Span.{arity, Span}
+use Rattle.expr.proofs.Spans.{span-pos, span-roomy, span-gate, span-unary, span-constant, span-variable, span-bad}
+use Rattle.expr.proofs.Token.{the-type}
 use borrow.Author.Needs.{needs}
 use native.Mathlib.Omega.{arith}
-use Prim.Native.Nat.{ℕ, _<_}
 use borrow.Fn.Kinds.{In}
 use borrow.Fn.PlainCycle.{Measures, is, falls, and}
 use Rattle.expr.proofs.inner.cost_span.Reads as cost-span
@@ -15,7 +28,21 @@ use Rattle.expr.proofs.inner.+cost_span.{statement}
 use Rattle.expr.proofs.inner.+cost_span.Tie.{close}
 
 abbrev μ-cost-span : Measures 2 cost-span-kinds.ps ℕ
-μ-cost-span κs a = ?
+μ-cost-span κs a = a .1 .1 .1 .0 - a .1 .1 .0
+
+-- a tag of 3 or 4 is that of Not or Neg
+unary-tag : (t : Token) → OneOf (3 ∷ 4 ∷ []) (tagOf the-type t) → arity t ≡ 1
+unfolding arity
+unary-tag (Constant k) (inl e) = absurd (omega arith)
+unary-tag (Constant k) (inr e) = absurd (omega arith)
+unary-tag (Variable i) (inl e) = absurd (omega arith)
+unary-tag (Variable i) (inr e) = absurd (omega arith)
+unary-tag (Binary g) (inl e) = absurd (omega arith)
+unary-tag (Binary g) (inr e) = absurd (omega arith)
+unary-tag Not h = omega arith
+unary-tag Neg h = omega arith
+unary-tag Bad (inl e) = absurd (omega arith)
+unary-tag Bad (inr e) = absurd (omega arith)
 
 abbrev cost-span-at : ℕ → In 2 cost-span-kinds.ps
 cost-span-at t = and 2 cost-span-kinds.ps (is 2 cost-span-kinds.ps μ-cost-span t) cost-span.Pre
@@ -24,7 +51,6 @@ abbrev cost-span-below : ℕ → In 2 cost-span-kinds.ps
 cost-span-below t =
     and 2 cost-span-kinds.ps (falls 2 cost-span-kinds.ps _<_ μ-cost-span t) cost-span.Pre
 
--- src/inner.rt:96:16
 cost-span-sub-last : (t : ℕ) → cost-span-lts.Need-sub-last (
   token-at-reads.Asked,
   token-at-reads.Learnt,
@@ -39,9 +65,13 @@ cost-span-sub-last : (t : ℕ) → cost-span-lts.Need-sub-last (
   under-unary-reads.Asked,
   under-unary-reads.Learnt,
 ) (cost-span-at t) cost-span.Post
-cost-span-sub-last t c = search needs
+cost-span-sub-last t c =
+    let s = c .before .before .args in
+    let sp : Span (s .ops .now) (s .operands .now) (s .from) (s .to) = c .before .before .pre .1 in
+    let pos = span-pos (s .ops .now) (s .operands .now) (s .from) (s .to) sp in
+    let most = sp .most in
+    omega arith
 
--- src/inner.rt:97:11
 cost-span-token-at-requires : (t : ℕ) → cost-span-lts.Need-token-at-requires (
   token-at-reads.Asked,
   token-at-reads.Learnt,
@@ -58,7 +88,6 @@ cost-span-token-at-requires : (t : ℕ) → cost-span-lts.Need-token-at-requires
 ) (cost-span-at t) cost-span.Post
 cost-span-token-at-requires t c κs = search needs
 
--- src/inner.rt:98:31
 cost-span-enum-told : (t : ℕ) → cost-span-lts.Need-enum-told (
   token-at-reads.Asked,
   token-at-reads.Learnt,
@@ -75,7 +104,6 @@ cost-span-enum-told : (t : ℕ) → cost-span-lts.Need-enum-told (
 ) (cost-span-at t) cost-span.Post
 cost-span-enum-told t c = search needs
 
--- src/inner.rt:98:31
 cost-span-leaf-requires : (t : ℕ) → cost-span-lts.Need-leaf-requires (
   token-at-reads.Asked,
   token-at-reads.Learnt,
@@ -92,7 +120,6 @@ cost-span-leaf-requires : (t : ℕ) → cost-span-lts.Need-leaf-requires (
 ) (cost-span-at t) cost-span.Post
 cost-span-leaf-requires t c κs = search needs
 
--- src/inner.rt:99:31
 cost-span-enum-told-2 : (t : ℕ) → cost-span-lts.Need-enum-told-2 (
   token-at-reads.Asked,
   token-at-reads.Learnt,
@@ -109,7 +136,6 @@ cost-span-enum-told-2 : (t : ℕ) → cost-span-lts.Need-enum-told-2 (
 ) (cost-span-at t) cost-span.Post
 cost-span-enum-told-2 t c = search needs
 
--- src/inner.rt:99:31
 cost-span-leaf-requires-2 : (t : ℕ) → cost-span-lts.Need-leaf-requires-2 (
   token-at-reads.Asked,
   token-at-reads.Learnt,
@@ -126,7 +152,6 @@ cost-span-leaf-requires-2 : (t : ℕ) → cost-span-lts.Need-leaf-requires-2 (
 ) (cost-span-at t) cost-span.Post
 cost-span-leaf-requires-2 t c κs = search needs
 
--- src/inner.rt:100:23
 cost-span-enum-known-g : (t : ℕ) → cost-span-lts.Need-enum-known-g (
   token-at-reads.Asked,
   token-at-reads.Learnt,
@@ -143,7 +168,6 @@ cost-span-enum-known-g : (t : ℕ) → cost-span-lts.Need-enum-known-g (
 ) (cost-span-at t) cost-span.Post
 cost-span-enum-known-g t c = search needs
 
--- src/inner.rt:101:17
 cost-span-span-start-requires : (t : ℕ) → cost-span-lts.Need-span-start-requires (
   token-at-reads.Asked,
   token-at-reads.Learnt,
@@ -158,9 +182,13 @@ cost-span-span-start-requires : (t : ℕ) → cost-span-lts.Need-span-start-requ
   under-unary-reads.Asked,
   under-unary-reads.Learnt,
 ) (cost-span-at t) cost-span.Post
-cost-span-span-start-requires t c κs = search needs
+cost-span-span-start-requires t c κs =
+    let s = c .before .before .before .before .before .before .args in
+    let sp : Span (s .ops .now) (s .operands .now) (s .from) (s .to) = c .before .before .before .before .before .before .pre .1 in
+    let pos = span-pos (s .ops .now) (s .operands .now) (s .from) (s .to) sp in
+    let most = sp .most in
+    omega arith
 
--- src/inner.rt:102:17
 cost-span-cost-span-requires : (t : ℕ) → cost-span-lts.Need-cost-span-requires (
   token-at-reads.Asked,
   token-at-reads.Learnt,
@@ -175,9 +203,17 @@ cost-span-cost-span-requires : (t : ℕ) → cost-span-lts.Need-cost-span-requir
   under-unary-reads.Asked,
   under-unary-reads.Learnt,
 ) (cost-span-at t) cost-span.Post
-cost-span-cost-span-requires t c κs = search needs
+cost-span-cost-span-requires t c κs =
+    let s = c .before .before .before .before .before .before .before .args in
+    let sp : Span (s .ops .now) (s .operands .now) (s .from) (s .to) = c .before .before .before .before .before .before .before .pre .1 in
+    let pos = span-pos (s .ops .now) (s .operands .now) (s .from) (s .to) sp in
+    let most = sp .most in
+    let two = span-gate (s .ops .now) (s .operands .now) (s .from) (s .to) sp (c .before .before .before .before .token-at .result) (sym (c .before .before .before .before .token-at .ensures)) _ (c .before .before .g .given .1) (c .span-start .result) (c .span-start .ensures) in
+    let l = span-pos (s .ops .now) (s .operands .now) (s .from) (c .span-start .result) (two .left) in
+    let r = span-pos (s .ops .now) (s .operands .now) (c .span-start .result) (s .to - 1) (two .right) in
+    let is : s .to - s .from ≡ t = c .before .before .before .before .before .before .before .pre .0 in
+    (omega arith, two .left)
 
--- src/inner.rt:103:17
 cost-span-cost-span-requires-2 : (t : ℕ) → cost-span-lts.Need-cost-span-requires-2 (
   token-at-reads.Asked,
   token-at-reads.Learnt,
@@ -192,9 +228,17 @@ cost-span-cost-span-requires-2 : (t : ℕ) → cost-span-lts.Need-cost-span-requ
   under-unary-reads.Asked,
   under-unary-reads.Learnt,
 ) (cost-span-at t) cost-span.Post
-cost-span-cost-span-requires-2 t c κs = search needs
+cost-span-cost-span-requires-2 t c κs =
+    let s = c .before .before .before .before .before .before .before .before .args in
+    let sp : Span (s .ops .now) (s .operands .now) (s .from) (s .to) = c .before .before .before .before .before .before .before .before .pre .1 in
+    let pos = span-pos (s .ops .now) (s .operands .now) (s .from) (s .to) sp in
+    let most = sp .most in
+    let two = span-gate (s .ops .now) (s .operands .now) (s .from) (s .to) sp (c .before .before .before .before .before .token-at .result) (sym (c .before .before .before .before .before .token-at .ensures)) _ (c .before .before .before .g .given .1) (c .before .span-start .result) (c .before .span-start .ensures) in
+    let l = span-pos (s .ops .now) (s .operands .now) (s .from) (c .before .span-start .result) (two .left) in
+    let r = span-pos (s .ops .now) (s .operands .now) (c .before .span-start .result) (s .to - 1) (two .right) in
+    let is : s .to - s .from ≡ t = c .before .before .before .before .before .before .before .before .pre .0 in
+    (omega arith, two .right)
 
--- src/inner.rt:104:13
 cost-span-under-gate-requires : (t : ℕ) → cost-span-lts.Need-under-gate-requires (
   token-at-reads.Asked,
   token-at-reads.Learnt,
@@ -209,9 +253,18 @@ cost-span-under-gate-requires : (t : ℕ) → cost-span-lts.Need-under-gate-requ
   under-unary-reads.Asked,
   under-unary-reads.Learnt,
 ) (cost-span-at t) cost-span.Post
-cost-span-under-gate-requires t c κs = search needs
+cost-span-under-gate-requires t c κs =
+    let s = c .before .before .before .before .before .before .before .before .before .args in
+    let sp : Span (s .ops .now) (s .operands .now) (s .from) (s .to) = c .before .before .before .before .before .before .before .before .before .pre .1 in
+    let pos = span-pos (s .ops .now) (s .operands .now) (s .from) (s .to) sp in
+    let most = sp .most in
+    let two = span-gate (s .ops .now) (s .operands .now) (s .from) (s .to) sp (c .before .before .before .before .before .before .token-at .result) (sym (c .before .before .before .before .before .before .token-at .ensures)) _ (c .before .before .before .before .g .given .1) (c .before .before .span-start .result) (c .before .before .span-start .ensures) in
+    let l = span-pos (s .ops .now) (s .operands .now) (s .from) (c .before .before .span-start .result) (two .left) in
+    let r = span-pos (s .ops .now) (s .operands .now) (c .before .before .span-start .result) (s .to - 1) (two .right) in (
+      subst (λ (x : CostInfo). Roomy (x .cost)) (sym (c .before .cost-span .ensures)) (span-roomy (s .ops .now) (s .operands .now) (s .from) (c .before .before .span-start .result) (two .left)),
+      subst (λ (x : CostInfo). Roomy (x .cost)) (sym (c .cost-span2 .ensures)) (span-roomy (s .ops .now) (s .operands .now) (c .before .before .span-start .result) (s .to - 1) (two .right)),
+    )
 
--- src/inner.rt:106:36
 cost-span-cost-span-requires-3 : (t : ℕ) → cost-span-lts.Need-cost-span-requires-3 (
   token-at-reads.Asked,
   token-at-reads.Learnt,
@@ -226,9 +279,15 @@ cost-span-cost-span-requires-3 : (t : ℕ) → cost-span-lts.Need-cost-span-requ
   under-unary-reads.Asked,
   under-unary-reads.Learnt,
 ) (cost-span-at t) cost-span.Post
-cost-span-cost-span-requires-3 t c κs = search needs
+cost-span-cost-span-requires-3 t c κs =
+    let s = c .before .before .before .before .args in
+    let sp : Span (s .ops .now) (s .operands .now) (s .from) (s .to) = c .before .before .before .before .pre .1 in
+    let pos = span-pos (s .ops .now) (s .operands .now) (s .from) (s .to) sp in
+    let most = sp .most in
+    let one = span-unary (s .ops .now) (s .operands .now) (s .from) (s .to) sp (c .before .token-at .result) (sym (c .before .token-at .ensures)) (unary-tag (c .before .token-at .result) (c .match .keys4)) in
+    let is : s .to - s .from ≡ t = c .before .before .before .before .pre .0 in
+    (omega arith, one .operand)
 
--- src/inner.rt:106:36
 cost-span-under-unary-requires : (t : ℕ) → cost-span-lts.Need-under-unary-requires (
   token-at-reads.Asked,
   token-at-reads.Learnt,
@@ -243,9 +302,14 @@ cost-span-under-unary-requires : (t : ℕ) → cost-span-lts.Need-under-unary-re
   under-unary-reads.Asked,
   under-unary-reads.Learnt,
 ) (cost-span-at t) cost-span.Post
-cost-span-under-unary-requires t c κs = search needs
+cost-span-under-unary-requires t c κs =
+    let s = c .before .before .before .before .before .args in
+    let sp : Span (s .ops .now) (s .operands .now) (s .from) (s .to) = c .before .before .before .before .before .pre .1 in
+    let pos = span-pos (s .ops .now) (s .operands .now) (s .from) (s .to) sp in
+    let most = sp .most in
+    let one = span-unary (s .ops .now) (s .operands .now) (s .from) (s .to) sp (c .before .before .token-at .result) (sym (c .before .before .token-at .ensures)) (unary-tag (c .before .before .token-at .result) (c .before .match .keys4)) in
+    subst (λ (x : CostInfo). Roomy (x .cost)) (sym (c .cost-span3 .ensures)) (span-roomy (s .ops .now) (s .operands .now) (s .from) (s .to - 1) (one .operand))
 
--- src/inner.rt:107:23
 cost-span-enum-told-3 : (t : ℕ) → cost-span-lts.Need-enum-told-3 (
   token-at-reads.Asked,
   token-at-reads.Learnt,
@@ -262,7 +326,6 @@ cost-span-enum-told-3 : (t : ℕ) → cost-span-lts.Need-enum-told-3 (
 ) (cost-span-at t) cost-span.Post
 cost-span-enum-told-3 t c = search needs
 
--- src/inner.rt:107:23
 cost-span-leaf-requires-3 : (t : ℕ) → cost-span-lts.Need-leaf-requires-3 (
   token-at-reads.Asked,
   token-at-reads.Learnt,
@@ -279,7 +342,6 @@ cost-span-leaf-requires-3 : (t : ℕ) → cost-span-lts.Need-leaf-requires-3 (
 ) (cost-span-at t) cost-span.Post
 cost-span-leaf-requires-3 t c κs = search needs
 
--- src/inner.rt:92:1
 cost-span-returns : (t : ℕ) → cost-span-lts.Need-returns (
   token-at-reads.Asked,
   token-at-reads.Learnt,
@@ -294,9 +356,13 @@ cost-span-returns : (t : ℕ) → cost-span-lts.Need-returns (
   under-unary-reads.Asked,
   under-unary-reads.Learnt,
 ) (cost-span-at t) cost-span.Post
-cost-span-returns t c = search needs
+cost-span-returns t c =
+    let s = c .before .before .before .before .before .before .args in
+    let sp : Span (s .ops .now) (s .operands .now) (s .from) (s .to) = c .before .before .before .before .before .before .pre .1 in
+    let pos = span-pos (s .ops .now) (s .operands .now) (s .from) (s .to) sp in
+    let most = sp .most in
+    c .leaf .ensures ∙ span-constant (s .ops .now) (s .operands .now) (s .from) (s .to) sp (c .before .before .before .token-at .result) (sym (c .before .before .before .token-at .ensures)) _ (c .before .enum-told .given .1)
 
--- src/inner.rt:92:1
 cost-span-returns-2 : (t : ℕ) → cost-span-lts.Need-returns-2 (
   token-at-reads.Asked,
   token-at-reads.Learnt,
@@ -311,9 +377,13 @@ cost-span-returns-2 : (t : ℕ) → cost-span-lts.Need-returns-2 (
   under-unary-reads.Asked,
   under-unary-reads.Learnt,
 ) (cost-span-at t) cost-span.Post
-cost-span-returns-2 t c = search needs
+cost-span-returns-2 t c =
+    let s = c .before .before .before .before .before .before .args in
+    let sp : Span (s .ops .now) (s .operands .now) (s .from) (s .to) = c .before .before .before .before .before .before .pre .1 in
+    let pos = span-pos (s .ops .now) (s .operands .now) (s .from) (s .to) sp in
+    let most = sp .most in
+    c .leaf2 .ensures ∙ span-variable (s .ops .now) (s .operands .now) (s .from) (s .to) sp (c .before .before .before .token-at .result) (sym (c .before .before .before .token-at .ensures)) _ (c .before .enum-told2 .given .1)
 
--- src/inner.rt:92:1
 cost-span-returns-3 : (t : ℕ) → cost-span-lts.Need-returns-3 (
   token-at-reads.Asked,
   token-at-reads.Learnt,
@@ -328,9 +398,16 @@ cost-span-returns-3 : (t : ℕ) → cost-span-lts.Need-returns-3 (
   under-unary-reads.Asked,
   under-unary-reads.Learnt,
 ) (cost-span-at t) cost-span.Post
-cost-span-returns-3 t c = search needs
+cost-span-returns-3 t c =
+    let s = c .before .before .before .before .before .before .before .before .before .before .args in
+    let sp : Span (s .ops .now) (s .operands .now) (s .from) (s .to) = c .before .before .before .before .before .before .before .before .before .before .pre .1 in
+    let pos = span-pos (s .ops .now) (s .operands .now) (s .from) (s .to) sp in
+    let most = sp .most in
+    let two = span-gate (s .ops .now) (s .operands .now) (s .from) (s .to) sp (c .before .before .before .before .before .before .before .token-at .result) (sym (c .before .before .before .before .before .before .before .token-at .ensures)) _ (c .before .before .before .before .before .g .given .1) (c .before .before .before .span-start .result) (c .before .before .before .span-start .ensures) in
+    let l = span-pos (s .ops .now) (s .operands .now) (s .from) (c .before .before .before .span-start .result) (two .left) in
+    let r = span-pos (s .ops .now) (s .operands .now) (c .before .before .before .span-start .result) (s .to - 1) (two .right) in
+    c .under-gate .ensures ∙ ap₂ (λ (x y : CostInfo). infoGate (c .before .before .before .before .before .g .given .0 .0) x y) (c .before .before .cost-span .ensures) (c .before .cost-span2 .ensures) ∙ two .cost
 
--- src/inner.rt:92:1
 cost-span-returns-4 : (t : ℕ) → cost-span-lts.Need-returns-4 (
   token-at-reads.Asked,
   token-at-reads.Learnt,
@@ -345,9 +422,14 @@ cost-span-returns-4 : (t : ℕ) → cost-span-lts.Need-returns-4 (
   under-unary-reads.Asked,
   under-unary-reads.Learnt,
 ) (cost-span-at t) cost-span.Post
-cost-span-returns-4 t c = search needs
+cost-span-returns-4 t c =
+    let s = c .before .before .before .before .before .before .args in
+    let sp : Span (s .ops .now) (s .operands .now) (s .from) (s .to) = c .before .before .before .before .before .before .pre .1 in
+    let pos = span-pos (s .ops .now) (s .operands .now) (s .from) (s .to) sp in
+    let most = sp .most in
+    let one = span-unary (s .ops .now) (s .operands .now) (s .from) (s .to) sp (c .before .before .before .token-at .result) (sym (c .before .before .before .token-at .ensures)) (unary-tag (c .before .before .before .token-at .result) (c .before .before .match .keys4)) in
+    c .under-unary .ensures ∙ ap (λ (x : CostInfo). infoUnary x) (c .before .cost-span3 .ensures) ∙ one .cost
 
--- src/inner.rt:92:1
 cost-span-returns-5 : (t : ℕ) → cost-span-lts.Need-returns-5 (
   token-at-reads.Asked,
   token-at-reads.Learnt,
@@ -362,7 +444,12 @@ cost-span-returns-5 : (t : ℕ) → cost-span-lts.Need-returns-5 (
   under-unary-reads.Asked,
   under-unary-reads.Learnt,
 ) (cost-span-at t) cost-span.Post
-cost-span-returns-5 t c = search needs
+cost-span-returns-5 t c =
+    let s = c .before .before .before .before .before .before .args in
+    let sp : Span (s .ops .now) (s .operands .now) (s .from) (s .to) = c .before .before .before .before .before .before .pre .1 in
+    let pos = span-pos (s .ops .now) (s .operands .now) (s .from) (s .to) sp in
+    let most = sp .most in
+    absurd (span-bad (s .ops .now) (s .operands .now) (s .from) (s .to) sp (c .before .before .before .token-at .result) (sym (c .before .before .before .token-at .ensures)) (c .before .enum-told3 .given .1))
 
 pub +cost-span-spec : {M : Type 1} → statement M
 +cost-span-spec = close μ-cost-span λ t. cost-span-lts.spec (

@@ -48,11 +48,15 @@ loop-again : tie.Need-loop-again Inv-loop μ-loop
 loop-again c =
     let s = c .before .before .before .before .before .before .before .args in
     let l = c .before .before .before .before .loop in
-    let few = arity-le (c .before .token-at .result) in
-    (omega arith, (omega (arith, c .takes .ensures),
-    ap (λ (x : ℕ). back (s .ops .now) (s .operands .now) (l .i - 1) (l .need - 1 + x)) (c .takes .ensures ∙ ap arity (c .before .token-at .ensures))
-    ∙ sym (back-step (s .ops .now) (s .operands .now) (l .i) (l .need) (search needs) (c .before .before .if1 .left))
-    ∙ l .inv .1 .1))
+    let few = arity-le (c .before .token-at .result) in (
+      omega arith,
+      (
+        omega (arith, c .takes .ensures),
+        ap (λ (x : ℕ). back (s .ops .now) (s .operands .now) (l .i - 1) (l .need - 1 + x)) (c .takes .ensures ∙ ap arity (c .before .token-at .ensures))
+            ∙ sym (back-step (s .ops .now) (s .operands .now) (l .i) (l .need) (search needs) (c .before .before .if1 .left))
+            ∙ l .inv .1 .1,
+      ),
+    )
 
 returns-2 : tie.Need-returns-2 Inv-loop μ-loop
 returns-2 c =
