@@ -6,3 +6,4 @@ pub mod Trees
 pub mod Stack
 pub mod Testing
 pub mod Spans
+pub mod Formulas

@@ -49,6 +49,37 @@ unfoldable pub marks : ℕ → List Mark
 marks zero = []
 marks (suc n) = mark ∷ marks n
 
+-- how many values are left does not depend on what they are
+shape : {A : Type 0} → Option (List A) → Option (List Mark)
+shape none = none
+shape (some st) = some (marks (length st))
+
+run-shape : {A : Type 0} (m : Alg A) (ts : List Token) (st : List A) → run markAlg ts (marks (length st)) ≡ shape (run m ts st)
+unfolding run step marks shape markAlg
+run-shape m [] st = refl
+run-shape m (Constant k ∷ ts) st = run-shape m ts (m .onConstant k ∷ st)
+run-shape m (Variable i ∷ ts) st = run-shape m ts (m .onVariable i ∷ st)
+run-shape m (Not ∷ ts) [] = refl
+run-shape m (Not ∷ ts) (a ∷ st) = run-shape m ts (m .onNot a ∷ st)
+run-shape m (Neg ∷ ts) [] = refl
+run-shape m (Neg ∷ ts) (a ∷ st) = run-shape m ts (m .onNeg a ∷ st)
+run-shape m (Binary g ∷ ts) [] = refl
+run-shape m (Binary g ∷ ts) (b ∷ []) = refl
+run-shape m (Binary g ∷ ts) (b ∷ (a ∷ st)) = run-shape m ts (m .onGate g a b ∷ st)
+run-shape m (Bad ∷ ts) st = refl
+
+only-shape : {A : Type 0} (x : Option (List A)) → isSome (only (shape x)) ≡ isSome (only x)
+unfolding only shape marks
+only-shape none = refl
+only-shape (some []) = refl
+only-shape (some (a ∷ [])) = refl
+only-shape (some (a ∷ (b ∷ st))) = refl
+
+-- one value is left at one algebra exactly if it is at every other
+pub leaves-one-any : {A : Type 0} (m : Alg A) (ts : List Token) → leavesOne ts ≡ isSome (whole m ts)
+unfolding leavesOne whole marks
+leaves-one-any m ts = ap (λ (x : Option (List Mark)). isSome (only x)) (run-shape m ts []) ∙ only-shape (run m ts [])
+
 pub step-low : (t : Token) (d : ℕ) → d < arity t → step markAlg t (marks d) ≡ none
 unfolding step marks arity markAlg
 step-low (Constant k) d h = absurd (omega arith)

@@ -89,6 +89,11 @@ small (gated g a b) =
     let k = length-append (written b) (Binary g ∷ []) in
     record { size = omega arith; products = omega arith; depth = omega arith }
 
+pub tree-roomy : (t : Tree) → length (written t) ≤ 64 → Roomy (infoOf (written t) .cost)
+tree-roomy t h =
+    let r = small t in
+    subst (λ (c : CostInfo). Roomy (c .cost)) (sym (info-tree t)) (record { size = omega arith; products = omega arith; depth = omega arith })
+
 -- ---- the last token
 lastOf : Tree → Token
 lastOf (constant k) = Constant k
@@ -240,10 +245,8 @@ module _ (ops operands : List ℕ) where
     pub span-roomy : Roomy (infoOf (spanOf ops operands from to) .cost)
     span-roomy =
         let e = ends (stands from to s) in
-        let r = small (tree-of from to s .tree) in
         let m = s .most in
-        subst (λ (c : CostInfo). Roomy (c .cost)) (sym (info-is (stands from to s)))
-        (record { size = omega arith; products = omega arith; depth = omega arith })
+        subst (λ (l : List Token). Roomy (infoOf l .cost)) (sym (span-is (stands from to s))) (tree-roomy (tree-of from to s .tree) (omega arith))
 
   -- a gate, and its two operands, of which the right one begins at `mid`
   pub record Gated (from mid to : ℕ) (g : Gate) : Type 0 where
