@@ -16,7 +16,8 @@ use Rattle.simd.specs.Gates.{gateOf}
 use Rattle.simd.specs.declared.Gate.{Gate}
 use Rattle.expr.specs.declared.Token.{Token}
 use Rattle.expr.specs.declared.Token.the-variants.{Constant, Variable, Binary, Not, Neg, Bad}
-use Rattle.expr.specs.Formula.{Alg, step, run, only, whole, orElse, known, allKnown, isFormula, valueAlg, valueOf}
+use Rattle.expr.specs.Formula.{tokenAt, tokens, Alg, step, run, only, whole, orElse, known, allKnown, isFormula, valueAlg, valueOf}
+use Rattle.expr.proofs.Tokens.{tokens-length, tokens-next}
 use Rattle.expr.proofs.Machine.{none≢some, and-left, and-right, Passed, passed}
 use Rattle.expr.proofs.Trees.{whole-tree, Formed, formed}
 
@@ -45,21 +46,31 @@ value-some nv w words ts h =
     e ∙ sym (ap (λ (x : Option ℕ). some (orElse 0 x)) e)
 
 -- reading the rest from place i over the first sp places of the array gives the value
-pub record Stage (w : ℕ) (words : List ℕ) (ts : List Token) (arr : List ℕ) (sp i : ℕ) : Type 0 where
+pub record Stage (w : ℕ) (words : List ℕ) (count : ℕ) (ops operands arr : List ℕ) (sp i : ℕ) : Type 0 where
   pub long : length arr ≡ 64
-  pub most : length ts ≤ 64
+  pub most : count ≤ 64
   pub room : sp ≤ i
-  pub at : i ≤ length ts
-  pub all : allKnown (length words) (drop i ts) ≡ true
-  pub rest : only (run (valueAlg w words) (drop i ts) (stackOf arr sp)) ≡ some (valueOf w words ts)
+  pub at : i ≤ count
+  pub all : allKnown (length words) (drop i (tokens count ops operands)) ≡ true
+  pub rest : only (run (valueAlg w words) (drop i (tokens count ops operands)) (stackOf arr sp)) ≡ some (valueOf w words (tokens count ops operands))
 
-pub stage-start : (w : ℕ) (words : List ℕ) (ts : List Token) (arr : List ℕ) → length arr ≡ 64 → isFormula (length words) ts ≡ true → Stage w words ts arr 0 0
+pub stage-start : (w : ℕ) (words : List ℕ) (count : ℕ) (ops operands arr : List ℕ) → length arr ≡ 64 → isFormula (length words) (tokens count ops operands) ≡ true → Stage w words count ops operands arr 0 0
 unfolding stackOf whole
-stage-start w words ts arr h k =
-    let p = passed (length words) ts k in
-    record { long = h; most = p .most; room = omega arith; at = omega arith; all = p .all; rest = value-some (length words) w words ts k }
+stage-start w words count ops operands arr h k =
+    let p = passed (length words) (tokens count ops operands) k in
+    record {
+      long = h;
+      most = subst (λ (n : ℕ). n ≤ 64) (tokens-length ops operands count) (p .most);
+      room = omega arith;
+      at = omega arith;
+      all = p .all;
+      rest = value-some (length words) w words (tokens count ops operands) k;
+    }
 
-module _ (w : ℕ) (words : List ℕ) (ts : List Token) (arr : List ℕ) (sp i : ℕ) (s : Stage w words ts arr sp i) where
+module _ (w : ℕ) (words : List ℕ) (count : ℕ) (ops operands arr : List ℕ) (sp i : ℕ) (s : Stage w words count ops operands arr sp i) where
+  ts : List Token
+  ts = tokens count ops operands
+
   -- at the end one word is left, and it is the value
   end-one : (n : ℕ) → only {A = ℕ} (some (stackOf arr n)) ≡ some (valueOf w words ts) → getD arr 0 0 ≡ valueOf w words ts
   unfolding only stackOf
@@ -67,21 +78,25 @@ module _ (w : ℕ) (words : List ℕ) (ts : List Token) (arr : List ℕ) (sp i :
   end-one (suc zero) e = cc
   end-one (suc (suc n)) e = absurd (none≢some e)
 
-  pub stage-end : length ts ≤ i → getD arr 0 0 ≡ valueOf w words ts
-  unfolding run
-  stage-end h = end-one sp (ap (λ (l : List Token). only (run (valueAlg w words) l (stackOf arr sp))) (sym (drop-of-length-le ts h)) ∙ s .rest)
+  pub stage-end : count ≤ i → getD arr 0 0 ≡ valueOf w words (tokens count ops operands)
+  unfolding run ts
+  stage-end h =
+      let le : length (tokens count ops operands) ≤ i = omega (arith, tokens-length ops operands count) in
+      end-one sp (ap (λ (l : List Token). only (run (valueAlg w words) l (stackOf arr sp))) (sym (drop-of-length-le (tokens count ops operands) le)) ∙ s .rest)
 
-  module _ (more : i < length ts) (t : Token) (here : drop i ts ≡ t ∷ drop (i + 1) ts) where
+  module _ (more : i < count) (t : Token) (here : tokenAt ops operands i ≡ t) where
     all-here : (known (length words) t && allKnown (length words) (drop (i + 1) ts)) ≡ true
-    unfolding allKnown
-    all-here = ap (allKnown (length words)) (sym here) ∙ s .all
+    unfolding allKnown ts
+    all-here = ap (allKnown (length words)) (sym (tokens-next ops operands count i t more here)) ∙ s .all
 
     rest-here : only (run (valueAlg w words) (t ∷ drop (i + 1) ts) (stackOf arr sp)) ≡ some (valueOf w words ts)
-    rest-here = ap (λ (l : List Token). only (run (valueAlg w words) l (stackOf arr sp))) (sym here) ∙ s .rest
+    unfolding ts
+    rest-here = ap (λ (l : List Token). only (run (valueAlg w words) l (stackOf arr sp))) (sym (tokens-next ops operands count i t more here)) ∙ s .rest
 
     -- the word x at place base is what the token leaves over the places below it
     next : (base x n : ℕ) → n ≡ base + 1 → base ≤ sp → base < length arr
-        → only (run (valueAlg w words) (drop (i + 1) ts) (x ∷ stackOf arr base)) ≡ some (valueOf w words ts) → Stage w words ts (set arr base x) n (i + 1)
+        → only (run (valueAlg w words) (drop (i + 1) ts) (x ∷ stackOf arr base)) ≡ some (valueOf w words ts) → Stage w words count ops operands (set arr base x) n (i + 1)
+    unfolding ts
     next base x n e b l r = record {
       long = length-set arr base x ∙ s .long;
       most = s .most;
@@ -93,7 +108,7 @@ module _ (w : ℕ) (words : List ℕ) (ts : List Token) (arr : List ℕ) (sp i :
 
     -- each token in turn
     module _ (x : ℕ) where
-      pub stage-constant : (k : ℕ) → t ≡ Constant k → x ≡ k % 2 ^ w → Stage w words ts (set arr sp x) (sp + 1) (i + 1)
+      pub stage-constant : (k : ℕ) → t ≡ Constant k → x ≡ k % 2 ^ w → Stage w words count ops operands (set arr sp x) (sp + 1) (i + 1)
       unfolding run step valueAlg
       stage-constant k e v =
           next sp x (sp + 1) refl (omega arith) (let a = s .long in let b = s .room in let d = s .most in omega arith)
@@ -101,7 +116,7 @@ module _ (w : ℕ) (words : List ℕ) (ts : List Token) (arr : List ℕ) (sp i :
           ∙ ap (λ (u : Token). only (run (valueAlg w words) (u ∷ drop (i + 1) ts) (stackOf arr sp))) (sym e)
           ∙ rest-here)
 
-      pub stage-variable : (k : ℕ) → t ≡ Variable k → x ≡ getD words k 0 % 2 ^ w → Stage w words ts (set arr sp x) (sp + 1) (i + 1)
+      pub stage-variable : (k : ℕ) → t ≡ Variable k → x ≡ getD words k 0 % 2 ^ w → Stage w words count ops operands (set arr sp x) (sp + 1) (i + 1)
       unfolding run step valueAlg
       stage-variable k e v =
           next sp x (sp + 1) refl (omega arith) (let a = s .long in let b = s .room in let d = s .most in omega arith)
@@ -109,7 +124,7 @@ module _ (w : ℕ) (words : List ℕ) (ts : List Token) (arr : List ℕ) (sp i :
           ∙ ap (λ (u : Token). only (run (valueAlg w words) (u ∷ drop (i + 1) ts) (stackOf arr sp))) (sym e)
           ∙ rest-here)
 
-      pub stage-not : (base : ℕ) → sp ≡ base + 1 → t ≡ Not → x ≡ notOf (2 ^ w) (getD arr base 0) → Stage w words ts (set arr base x) sp (i + 1)
+      pub stage-not : (base : ℕ) → sp ≡ base + 1 → t ≡ Not → x ≡ notOf (2 ^ w) (getD arr base 0) → Stage w words count ops operands (set arr base x) sp (i + 1)
       unfolding run step valueAlg stackOf
       stage-not base p e v =
           next base x sp p (omega arith) (let a = s .long in let b = s .room in let d = s .most in omega arith)
@@ -117,7 +132,7 @@ module _ (w : ℕ) (words : List ℕ) (ts : List Token) (arr : List ℕ) (sp i :
           ∙ ap₂ (λ (u : Token) (n : ℕ). only (run (valueAlg w words) (u ∷ drop (i + 1) ts) (stackOf arr n))) (sym e) (sym (p ∙ add-one base))
           ∙ rest-here)
 
-      pub stage-neg : (base : ℕ) → sp ≡ base + 1 → t ≡ Neg → x ≡ negOf (2 ^ w) (getD arr base 0) → Stage w words ts (set arr base x) sp (i + 1)
+      pub stage-neg : (base : ℕ) → sp ≡ base + 1 → t ≡ Neg → x ≡ negOf (2 ^ w) (getD arr base 0) → Stage w words count ops operands (set arr base x) sp (i + 1)
       unfolding run step valueAlg stackOf
       stage-neg base p e v =
           next base x sp p (omega arith) (let a = s .long in let b = s .room in let d = s .most in omega arith)
@@ -126,7 +141,7 @@ module _ (w : ℕ) (words : List ℕ) (ts : List Token) (arr : List ℕ) (sp i :
           ∙ rest-here)
 
       pub stage-gate : (base left : ℕ) → sp ≡ base + 1 → base ≡ left + 1 → (g : Gate) → t ≡ Binary g → x ≡ gateOf g w (getD arr left 0) (getD arr base 0)
-          → Stage w words ts (set arr left x) base (i + 1)
+          → Stage w words count ops operands (set arr left x) base (i + 1)
       unfolding run step valueAlg stackOf
       stage-gate base left p q g e v =
           next left x base q (omega arith) (let a = s .long in let b = s .room in let d = s .most in omega arith)

@@ -62,7 +62,9 @@ pub fn eval_tokens(w: u32, count: usize, ops: &[u8], operands: &[u64], words: &[
             }
             Token::Binary(g) => {
                 sp -= 1;
-                stack[sp - 1] = simd::inner::gate_apply_lane(stack[sp - 1], stack[sp], g, w);
+                let a = stack[sp - 1];
+                let b = stack[sp];
+                stack[sp - 1] = simd::inner::gate_apply_lane(a, b, g, w);
             }
             Token::Not => stack[sp - 1] = arith::mod_not(stack[sp - 1], w),
             Token::Neg => stack[sp - 1] = arith::mod_neg(stack[sp - 1], w),
