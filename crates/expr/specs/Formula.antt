@@ -1,0 +1,140 @@
+-- Formulas: tokens in postfix, read by one stack machine over any algebra. Assumes nothing.
+use mathlib.Core.Bool.{Bool, true, false, not, cond, _&&_}
+use mathlib.Core.List.{List, [], _∷_, _++_}
+use mathlib.Core.Option.{Option, none, some}
+use Prim.Native.Nat.{ℕ, zero, suc, _%_, _^_}
+use lib.Dec.{ltb}
+use lib.ListN.{length, getD}
+use Rattle.arith.specs.Word.{notOf, negOf}
+use Rattle.arith.specs.Refusal.{outsideOf}
+use Rattle.simd.specs.Gates.{gateOf}
+use Rattle.simd.specs.declared.Gate.{Gate}
+use Rattle.simd.specs.declared.Gate.the-variants.{And, Or, Xor, Add, Mul}
+use Rattle.expr.specs.declared.Token.{Token}
+use Rattle.expr.specs.declared.Token.the-variants.{Constant, Variable, Binary, Not, Neg, Bad}
+
+-- ---- tokens
+-- 01, From heap ..: operands of opcodes 2 to 8 are 0
+abbrev pub plain : Token → ℕ → Token
+plain t zero = t
+plain t (suc operand) = Bad
+
+-- 01, From heap ..: 0 Constant, 1 Variable, 2 Add, 3 Mul, 4 And, 5 Or, 6 Xor, 7 Not, 8 Neg. `Bad` is every other token
+unfoldable pub tokenOf : ℕ → ℕ → Token
+tokenOf zero k = Constant k
+tokenOf (suc zero) k = Variable k
+tokenOf (suc (suc zero)) k = plain (Binary Add) k
+tokenOf (suc (suc (suc zero))) k = plain (Binary Mul) k
+tokenOf (suc (suc (suc (suc zero)))) k = plain (Binary And) k
+tokenOf (suc (suc (suc (suc (suc zero))))) k = plain (Binary Or) k
+tokenOf (suc (suc (suc (suc (suc (suc zero)))))) k = plain (Binary Xor) k
+tokenOf (suc (suc (suc (suc (suc (suc (suc zero))))))) k = plain Not k
+tokenOf (suc (suc (suc (suc (suc (suc (suc (suc zero)))))))) k = plain Neg k
+tokenOf (suc (suc (suc (suc (suc (suc (suc (suc (suc n))))))))) k = Bad
+
+-- the token at a place of the two parallel arrays; past the end of either there is none, which is `Bad` too
+unfoldable pub tokenAt : List ℕ → List ℕ → ℕ → Token
+unfolding tokenOf
+tokenAt ops operands i =
+    cond (ltb i (length ops) && ltb i (length operands)) (tokenOf (getD ops i 0) (getD operands i 0)) Bad
+
+-- the first `count` tokens
+unfoldable pub tokens : ℕ → List ℕ → List ℕ → List Token
+unfolding tokenAt
+tokens zero ops operands = []
+tokens (suc n) ops operands = tokens n ops operands ++ (tokenAt ops operands n ∷ [])
+
+-- ---- the machine
+-- what each token does with values of A
+pub record Alg (A : Type 0) : Type 0 where
+  pub onConstant : ℕ → A
+  pub onVariable : ℕ → A
+  pub onNot : A → A
+  pub onNeg : A → A
+  pub onGate : Gate → A → A → A
+
+module _ {A : Type 0} (m : Alg A) where
+  -- one token on a stack, the top first: none where an operand is missing
+  unfoldable pub step : Token → List A → Option (List A)
+  step (Constant k) st = some (m .onConstant k ∷ st)
+  step (Variable i) st = some (m .onVariable i ∷ st)
+  step Not [] = none
+  step Not (a ∷ st) = some (m .onNot a ∷ st)
+  step Neg [] = none
+  step Neg (a ∷ st) = some (m .onNeg a ∷ st)
+  step (Binary g) [] = none
+  step (Binary g) (b ∷ []) = none
+  step (Binary g) (b ∷ (a ∷ st)) = some (m .onGate g a b ∷ st)
+  step Bad st = none
+
+  -- 01, From heap ..: every formula is read from left to right
+  unfoldable pub run : List Token → List A → Option (List A)
+  unfolding step
+  run [] st = some st
+  run (t ∷ ts) st = elim (step t st) [ none ↦ none | some next ↦ run ts next ]
+
+-- 01, Turned back, 6: exactly one value left
+unfoldable pub only : {A : Type 0} → Option (List A) → Option A
+only none = none
+only (some []) = none
+only (some (a ∷ [])) = some a
+only (some (a ∷ (b ∷ st))) = none
+
+unfoldable pub whole : {A : Type 0} → Alg A → List Token → Option A
+unfolding run only
+whole m ts = only (run m ts [])
+
+unfoldable pub orElse : {A : Type 0} → A → Option A → A
+orElse other none = other
+orElse other (some a) = a
+
+-- ---- the test
+pub data Mark : Type 0 where
+  mark : Mark
+
+-- the algebra that only counts the values
+unfoldable pub markAlg : Alg Mark
+markAlg = record { onConstant = λ k. mark; onVariable = λ i. mark; onNot = λ a. mark; onNeg = λ a. mark; onGate = λ g a b. mark }
+
+abbrev pub isSome : {A : Type 0} → Option A → Bool
+isSome none = false
+isSome (some a) = true
+
+-- no operand is missing and exactly one value is left
+unfoldable pub leavesOne : List Token → Bool
+unfolding markAlg whole
+leavesOne ts = isSome (whole markAlg ts)
+
+-- 01, Turned back, 6: unknown opcode, nonzero unused operand, variable not below the count
+unfoldable pub known : ℕ → Token → Bool
+known nv (Constant k) = true
+known nv (Variable i) = ltb i nv
+known nv (Binary g) = true
+known nv Not = true
+known nv Neg = true
+known nv Bad = false
+
+unfoldable pub allKnown : ℕ → List Token → Bool
+unfolding known
+allKnown nv [] = true
+allKnown nv (t ∷ ts) = known nv t && allKnown nv ts
+
+-- 01, Turned back, 6: a formula has 1 to 64 tokens, all known, no operand missing, exactly one value left
+unfoldable pub isFormula : ℕ → List Token → Bool
+unfolding allKnown leavesOne
+isFormula nv ts = not (outsideOf 1 64 (length ts)) && (allKnown nv ts && leavesOne ts)
+
+-- ---- the value
+-- 01, evaluator.rs: a constant or variable is its word modulo 2^w; Not is 2^w - 1 - v; Neg and the gates as at words of w bits
+unfoldable pub valueAlg : ℕ → List ℕ → Alg ℕ
+valueAlg w words = record {
+  onConstant = λ k. k % 2 ^ w;
+  onVariable = λ i. getD words i 0 % 2 ^ w;
+  onNot = λ a. notOf (2 ^ w) a;
+  onNeg = λ a. negOf (2 ^ w) a;
+  onGate = λ g a b. gateOf g w a b;
+}
+
+unfoldable pub valueOf : ℕ → List ℕ → List Token → ℕ
+unfolding valueAlg whole orElse
+valueOf w words ts = orElse 0 (whole (valueAlg w words) ts)

@@ -1,0 +1,6 @@
+-- What the contracts of this crate, and the definitions above it, cite.
+pub mod Formula
+pub mod Cost
+pub mod Answers
+pub mod Tree
+pub mod Span

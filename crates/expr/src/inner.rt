@@ -1,0 +1,208 @@
+// What the crates above call with what they have tested.
+use crate::Cost;
+use crate::CostInfo;
+use crate::MAX_TOKENS;
+use crate::Token;
+use simd::Gate;
+ghost use mathlib.Core.Path.{_≡_};
+ghost use mathlib.Core.Bool.{_||_};
+ghost use Prim.Native.Nat.{_≤_, max};
+ghost use Rattle.expr.specs.Formula.{tokens, known, valueOf};
+ghost use Rattle.expr.specs.Cost.{leafInfo, underUnary, underGate, isNonlinear, infoUnary, infoGate, infoOf, Roomy};
+ghost use Rattle.expr.specs.Span.{arity, back, spanOf, Span, Evaluable};
+
+// Whether a token may stand in a formula over nv variables.
+pub fn is_known(t: Token, nv: u32) -> bool
+    ensures { λ r. ⌜ r ≡ known nv t ⌝ }
+{
+    match t {
+        Token::Constant(_) => true,
+        Token::Variable(i) => i < nv as u64,
+        Token::Binary(_) => true,
+        Token::Not => true,
+        Token::Neg => true,
+        Token::Bad => false,
+    }
+}
+
+// How many values a token takes.
+pub fn takes(t: Token) -> usize
+    ensures { λ r. ⌜ r ≡ arity t ⌝ }
+{
+    match t {
+        Token::Constant(_) => 0,
+        Token::Variable(_) => 0,
+        Token::Binary(_) => 2,
+        Token::Not => 1,
+        Token::Neg => 1,
+        Token::Bad => 0,
+    }
+}
+
+// The value of a formula that has passed the test, from left to right over a stack.
+pub fn eval_tokens(w: u32, count: usize, ops: &[u8], operands: &[u64], words: &[u64]) -> u64
+    requires { ⌜ Evaluable w count (now ops) (now operands) (now words) ⌝ }
+    ensures { λ r. ⌜ r ≡ valueOf w (now (words .entry)) (tokens count (now (ops .entry)) (now (operands .entry))) ⌝ }
+{
+    let mut stack = [0u64; MAX_TOKENS];
+    let mut sp: usize = 0;
+    let mut i: usize = 0;
+    while i < count {
+        let t = crate::token_at(ops, operands, i);
+        i += 1;
+        match t {
+            Token::Constant(k) => {
+                stack[sp] = arith::reduce(k, w);
+                sp += 1;
+            }
+            Token::Variable(k) => {
+                let at = k as usize;
+                stack[sp] = arith::reduce(words[at], w);
+                sp += 1;
+            }
+            Token::Binary(g) => {
+                sp -= 1;
+                let a = stack[sp - 1];
+                let b = stack[sp];
+                stack[sp - 1] = simd::inner::gate_apply_lane(a, b, g, w);
+            }
+            Token::Not => stack[sp - 1] = arith::mod_not(stack[sp - 1], w),
+            Token::Neg => stack[sp - 1] = arith::mod_neg(stack[sp - 1], w),
+            Token::Bad => return 0,
+        }
+    }
+    stack[0]
+}
+
+// Where the formula that ends before `end` begins.
+pub fn span_start(ops: &[u8], operands: &[u64], end: usize) -> usize
+    requires { ⌜ end ≤ 64 ⌝ }
+    ensures { λ r. ⌜ r ≡ back (now (ops .entry)) (now (operands .entry)) end 1 ⌝ }
+{
+    let mut i = end;
+    let mut need: usize = 1;
+    while 0 < i {
+        if need == 0 {
+            return i;
+        }
+        i -= 1;
+        need = need - 1 + takes(crate::token_at(ops, operands, i));
+    }
+    i
+}
+
+// The cost of the formula that stands from `from` up to `to`, found by going down into its operands, each shorter than the whole.
+pub fn cost_span(ops: &[u8], operands: &[u64], from: usize, to: usize) -> CostInfo
+    requires { ⌜ Span (now ops) (now operands) from to ⌝ }
+    ensures { λ r. ⌜ r ≡ infoOf (spanOf (now (ops .entry)) (now (operands .entry)) from to) ⌝ }
+{
+    let last = to - 1;
+    match crate::token_at(ops, operands, last) {
+        Token::Constant(_) => CostInfo::leaf(false),
+        Token::Variable(_) => CostInfo::leaf(true),
+        Token::Binary(g) => {
+            let mid = span_start(ops, operands, last);
+            let a = cost_span(ops, operands, from, mid);
+            let b = cost_span(ops, operands, mid, last);
+            a.under_gate(b, g)
+        }
+        Token::Not | Token::Neg => cost_span(ops, operands, from, last).under_unary(),
+        Token::Bad => CostInfo::leaf(false),
+    }
+}
+
+impl Cost {
+    pub fn under_unary(self) -> Cost
+        requires { ⌜ Roomy self ⌝ }
+        ensures { λ r. ⌜ r ≡ underUnary self ⌝ }
+    {
+        Cost {
+            size: self.size + 1,
+            products: self.products,
+            depth: self.depth + 1,
+        }
+    }
+
+    pub fn under_gate(self, other: Cost, nonlinear: bool) -> Cost
+        requires { ⌜ Roomy self × Roomy other ⌝ }
+        ensures { λ r. ⌜ r ≡ underGate nonlinear self other ⌝ }
+    {
+        let depth = deeper(self.depth, other.depth) + 1;
+        if nonlinear {
+            Cost {
+                size: self.size + other.size + 3,
+                products: self.products + other.products + 1,
+                depth,
+            }
+        } else {
+            Cost {
+                size: self.size + other.size + 1,
+                products: self.products + other.products,
+                depth,
+            }
+        }
+    }
+}
+
+fn deeper(a: u32, b: u32) -> u32
+    ensures { λ r. ⌜ r ≡ max a b ⌝ }
+{
+    if a < b { b } else { a }
+}
+
+impl CostInfo {
+    pub fn leaf(varies: bool) -> CostInfo
+        ensures { λ r. ⌜ r ≡ leafInfo varies ⌝ }
+    {
+        let cost = Cost {
+            size: 1,
+            products: 0,
+            depth: 1,
+        };
+        CostInfo { cost, varies }
+    }
+
+    pub fn under_unary(self) -> CostInfo
+        requires { ⌜ Roomy (self .cost) ⌝ }
+        ensures { λ r. ⌜ r ≡ infoUnary self ⌝ }
+    {
+        let below = self.cost;
+        let cost = below.under_unary();
+        CostInfo {
+            cost,
+            varies: self.varies,
+        }
+    }
+
+    pub fn under_gate(self, other: CostInfo, g: Gate) -> CostInfo
+        requires { ⌜ Roomy (self .cost) × Roomy (other .cost) ⌝ }
+        ensures { λ r. ⌜ r ≡ infoGate g self other ⌝ }
+    {
+        let a = self.cost;
+        let b = other.cost;
+        let cost = a.under_gate(b, is_nonlinear(g, self.varies, other.varies));
+        CostInfo {
+            cost,
+            varies: either(self.varies, other.varies),
+        }
+    }
+}
+
+// Mul with a variable under both operands.
+fn is_nonlinear(g: Gate, a: bool, b: bool) -> bool
+    ensures { λ r. ⌜ r ≡ isNonlinear g a b ⌝ }
+{
+    match g {
+        Gate::And => false,
+        Gate::Or => false,
+        Gate::Xor => false,
+        Gate::Add => false,
+        Gate::Mul => if a { b } else { false },
+    }
+}
+
+fn either(a: bool, b: bool) -> bool
+    ensures { λ r. ⌜ r ≡ (a || b) ⌝ }
+{
+    if a { true } else { b }
+}
