@@ -1,15 +1,22 @@
 -- Laws of refusals. Assumes nothing.
-use mathlib.Core.Path.{_≡_}
+use mathlib.Core.Path.{_≡_, ap, _∙_}
 use mathlib.Core.Logic.{_⊎_, inl, inr}
 use mathlib.Core.Bool.{Bool, true, false}
 use Prim.Native.Nat.{ℕ, _≤_, _<_}
 use native.Mathlib.Omega.{arith}
 use borrow.Author.Tests.{lt-ltb, le-ltb}
-use Rattle.arith.specs.Refusal.{outsideOf}
+use Rattle.arith.specs.Refusal.{refuse, outsideOf}
 use Rattle.arith.proofs.Remainders.{le-or-lt}
 
 pub true-not-false : true ≡ false → ⊥
 true-not-false e = let z : _≡_ {A = ℕ} 0 1 = cc in omega arith
+
+-- a row of refusals: the first that applies is the call's
+pub refused-here : {b : Bool} (n rest : ℕ) → b ≡ true → refuse b n rest ≡ n
+refused-here n rest e = ap (λ (x : Bool). refuse x n rest) e
+
+pub refused-later : {b : Bool} (n : ℕ) {rest m : ℕ} → b ≡ false → rest ≡ m → refuse b n rest ≡ m
+refused-later n {rest} e f = ap (λ (x : Bool). refuse x n rest) e ∙ f
 
 -- what a range test that passed tells
 pub record Within (low high n : ℕ) : Type 0 where

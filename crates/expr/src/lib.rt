@@ -109,7 +109,7 @@ pub fn is_formula(nv: u32, count: usize, ops: &[u8], operands: &[u64]) -> bool
 }
 
 // Whether one of the two arrays has fewer than `count` places.
-fn too_short(count: usize, ops: &[u8], operands: &[u64]) -> bool
+pub fn too_short(count: usize, ops: &[u8], operands: &[u64]) -> bool
     ensures { λ r. ⌜ r ≡ tooShort count (now (ops .entry)) (now (operands .entry)) ⌝ }
 {
     if ops.len() < count {

@@ -1,6 +1,10 @@
-// Probe points and fingerprints, from template_decomposer.rs.
+// Probe points, rows of formulas and fingerprints, from template_decomposer.rs.
+use simd::RowAnswer;
 ghost use mathlib.Core.Path.{_≡_};
+ghost use mathlib.Core.Bool.{true};
 ghost use Prim.Native.Nat.{_≤_};
+ghost use Rattle.expr.specs.Formula.{tokens, isFormula, valueOf};
+ghost use Rattle.probe.specs.FormulaRow.{rowOf, zeroRow, probed};
 ghost use Rattle.probe.specs.Points.{drawn, zeroPoints, probePoints, madePoints, DrawsPoint};
 ghost use Rattle.probe.specs.Fingerprint.{fingerprintOf, mixWord, finished};
 
@@ -106,6 +110,71 @@ fn draw_point(nv: usize, w: u32, state: u64) -> DrawnPoint
         state: s,
         point: Point { words },
     }
+}
+
+// The row of a formula: its value at each of the sixteen points. Refuses 1, 2, 4, 6.
+pub fn probe(
+    nv: u32,
+    w: u32,
+    points: [Point; 16],
+    count: usize,
+    ops: &[u8],
+    operands: &[u64],
+) -> RowAnswer
+    ensures { λ r. ⌜ r ≡ probed nv w points count (now (ops .entry)) (now (operands .entry)) ⌝ }
+{
+    if arith::bad_count(nv) {
+        return refused_row(1);
+    }
+    if arith::bad_width(w) {
+        return refused_row(2);
+    }
+    if expr::too_short(count, ops, operands) {
+        return refused_row(4);
+    }
+    if expr::is_formula(nv, count, ops, operands) {
+        let row = row_at_points(w, points, count, ops, operands);
+        RowAnswer { refusal: 0, row }
+    } else {
+        refused_row(6)
+    }
+}
+
+fn refused_row(refusal: u32) -> RowAnswer
+    ensures { λ r. ⌜ r ≡ record { refusal = refusal; row = zeroRow } ⌝ }
+{
+    let row = [0u64; POINTS];
+    RowAnswer { refusal, row }
+}
+
+// The value at one point.
+fn value_at(w: u32, p: Point, count: usize, ops: &[u8], operands: &[u64]) -> u64
+    requires { ⌜ (w ≤ 64) × (isFormula 6 (tokens count (now ops) (now operands)) ≡ true) ⌝ }
+    ensures { λ r. ⌜ r ≡ valueOf w (p .words) (tokens count (now (ops .entry)) (now (operands .entry))) ⌝ }
+{
+    let words = p.words;
+    expr::inner::eval_tokens(w, count, ops, operands, &words)
+}
+
+// Point after point.
+fn row_at_points(
+    w: u32,
+    points: [Point; 16],
+    count: usize,
+    ops: &[u8],
+    operands: &[u64],
+) -> [u64; 16]
+    requires { ⌜ (w ≤ 64) × (isFormula 6 (tokens count (now ops) (now operands)) ≡ true) ⌝ }
+    ensures { λ r. ⌜ r ≡ rowOf w points (tokens count (now (ops .entry)) (now (operands .entry))) ⌝ }
+{
+    let mut row = [0u64; POINTS];
+    let mut k: usize = 0;
+    while k < POINTS {
+        let p = points[k];
+        row[k] = value_at(w, p, count, ops, operands);
+        k += 1;
+    }
+    row
 }
 
 // A number made of a row's words. Equal fingerprints never stand for equal rows.

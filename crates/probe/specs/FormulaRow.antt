@@ -1,0 +1,36 @@
+-- The row of a formula at the sixteen points. Assumes nothing.
+use mathlib.Core.Bool.{Bool}
+use mathlib.Core.List.{List, map}
+use Prim.Native.Nat.{ℕ}
+use lib.ListN.{replicate}
+use Rattle.arith.specs.Refusal.{refuse, unlessRefused, badCount, badWidth}
+use Rattle.simd.specs.declared.RowAnswer.{RowAnswer}
+use Rattle.expr.specs.declared.Token.{Token}
+use Rattle.expr.specs.Formula.{tokens, valueOf}
+use Rattle.expr.specs.Answers.{tooShort, notFormula}
+use Rattle.probe.specs.declared.Point.{Point}
+
+-- an atom's row (01's term): the formula's value at each point. Words past the variable count are ignored: `row-alike` of proofs/Alike
+unfoldable pub rowOf : ℕ → List Point → List Token → List ℕ
+unfolding valueOf
+rowOf w points ts = map (λ (p : Point). valueOf w (p .words) ts) points
+
+-- 01, evaluator.rs, Refusals 1, 2, 4, 6
+abbrev pub probeRefusal : ℕ → ℕ → ℕ → List ℕ → List ℕ → ℕ
+probeRefusal nv w count ops operands =
+    refuse (badCount nv) 1
+    (refuse (badWidth w) 2
+    (refuse (tooShort count ops operands) 4
+    (refuse (notFormula nv count ops operands) 6 0)))
+
+-- 01, Turned back: a row handed back by value holds only zeros when turned back
+abbrev pub zeroRow : List ℕ
+zeroRow = replicate 16 0
+
+-- what `probe` answers
+abbrev pub rowOrZeros : ℕ → List ℕ → RowAnswer
+rowOrZeros number row = record { refusal = number; row = unlessRefused number row zeroRow }
+
+abbrev pub probed : ℕ → ℕ → List Point → ℕ → List ℕ → List ℕ → RowAnswer
+probed nv w points count ops operands =
+    rowOrZeros (probeRefusal nv w count ops operands) (rowOf w points (tokens count ops operands))
