@@ -1,0 +1,82 @@
+-- From a list of atoms to 01's five arrays. Assumes nothing.
+use mathlib.Core.List.{List, [], _∷_, _++_, map}
+use Prim.Native.Nat.{ℕ, zero, suc, _*_}
+use lib.ListN.{length, drop}
+use Rattle.arith.specs.Parts.{encode}
+use Rattle.simd.specs.declared.Gate.{Gate}
+use Rattle.simd.specs.declared.Gate.the-variants.{And, Or, Xor, Add, Mul}
+use Rattle.expr.specs.declared.Token.{Token}
+use Rattle.expr.specs.declared.Token.the-variants.{Constant, Variable, Binary, Not, Neg, Bad}
+use Rattle.expr.specs.declared.Cost.{Cost}
+use Rattle.atoms.specs.Bank.{Atom}
+
+-- 01, From heap ..: 0 Constant, 1 Variable, 2 Add, 3 Mul, 4 And, 5 Or, 6 Xor, 7 Not, 8 Neg; 255 stands in unused places
+abbrev pub opcodeOf : Token → ℕ
+opcodeOf (Constant k) = 0
+opcodeOf (Variable i) = 1
+opcodeOf (Binary Add) = 2
+opcodeOf (Binary Mul) = 3
+opcodeOf (Binary And) = 4
+opcodeOf (Binary Or) = 5
+opcodeOf (Binary Xor) = 6
+opcodeOf Not = 7
+opcodeOf Neg = 8
+opcodeOf Bad = 255
+
+abbrev pub operandOf : Token → ℕ
+operandOf (Constant k) = k
+operandOf (Variable i) = i
+operandOf (Binary g) = 0
+operandOf Not = 0
+operandOf Neg = 0
+operandOf Bad = 0
+
+-- the first s of l, with d in the places that l does not have: always s elements
+unfoldable pub padTo : ℕ → ℕ → List ℕ → List ℕ
+padTo zero d l = []
+padTo (suc s) d [] = d ∷ padTo s d []
+padTo (suc s) d (x ∷ l) = x ∷ padTo s d l
+
+-- 01, From heap ..: per atom one length, 6 opcodes, 6 operands, 3 cost numbers and 16 row words. Unused token places hold opcode 255 and operand 0
+abbrev pub lengthPart : Atom → List ℕ
+lengthPart a = length (a .form) ∷ []
+
+unfoldable pub opsPart : Atom → List ℕ
+unfolding padTo
+opsPart a = padTo 6 255 (map opcodeOf (a .form))
+
+unfoldable pub operandsPart : Atom → List ℕ
+unfolding padTo
+operandsPart a = padTo 6 0 (map operandOf (a .form))
+
+abbrev pub costNumbers : Cost → List ℕ
+costNumbers c = c .size ∷ (c .products ∷ (c .depth ∷ []))
+
+abbrev pub costPart : Atom → List ℕ
+costPart a = costNumbers (a .cost)
+
+unfoldable pub rowPart : Atom → List ℕ
+unfolding padTo
+rowPart a = padTo 16 0 (a .row)
+
+-- the five arrays
+pub record Arrays : Type 0 where
+  pub lengths : List ℕ
+  pub ops : List ℕ
+  pub operands : List ℕ
+  pub costs : List ℕ
+  pub rows : List ℕ
+
+-- 01, From heap ..: places beyond the counts in a lent output stay unchanged
+abbrev pub spread : ℕ → (Atom → List ℕ) → List Atom → List ℕ → List ℕ
+spread s part bank old = encode part bank ++ drop (s * length bank) old
+
+-- the arrays that hold the bank, over what they held before
+abbrev pub written : List Atom → Arrays → Arrays
+written bank old = record {
+  lengths = spread 1 lengthPart bank (old .lengths);
+  ops = spread 6 opsPart bank (old .ops);
+  operands = spread 6 operandsPart bank (old .operands);
+  costs = spread 3 costPart bank (old .costs);
+  rows = spread 16 rowPart bank (old .rows);
+}

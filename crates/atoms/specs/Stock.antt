@@ -1,0 +1,62 @@
+-- The formulas of 01's bank, in 01's order, and its seeds. Assumes nothing.
+use mathlib.Core.Bool.{Bool, true, false}
+use mathlib.Core.List.{List, [], _∷_, _++_, map, flatMap}
+use Prim.Native.Nat.{ℕ, zero, suc, _-_, _^_}
+use lib.Bits.{bitOr}
+use lib.Dec.{eqb}
+use Rattle.simd.specs.declared.Gate.{Gate}
+use Rattle.simd.specs.declared.Gate.the-variants.{And, Or, Xor, Add, Mul}
+use Rattle.expr.specs.declared.Token.{Token}
+use Rattle.expr.specs.declared.Token.the-variants.{Constant, Variable, Binary, Not, Neg}
+use Rattle.probe.specs.declared.Point.{Point}
+use Rattle.atoms.specs.Bank.{Atom, built}
+
+-- i, i + 1, .., n of them
+unfoldable pub countUp : ℕ → ℕ → List ℕ
+countUp i zero = []
+countUp i (suc n) = i ∷ countUp (suc i) n
+
+-- 01, Bank: constants 0, 1, 2, 2^w - 1
+unfoldable pub constants : ℕ → List (List Token)
+constants w = map (λ (v : ℕ). Constant v ∷ []) (0 ∷ (1 ∷ (2 ∷ ((2 ^ w - 1) ∷ []))))
+
+-- 01, Bank: per i: v, Neg v, Not v
+unfoldable pub ofVariable : ℕ → List (List Token)
+ofVariable i = (Variable i ∷ []) ∷ ((Variable i ∷ (Neg ∷ [])) ∷ ((Variable i ∷ (Not ∷ [])) ∷ []))
+
+-- 01, Bank: per i ≤ j: And, Or, Xor, Add, Mul
+unfoldable pub gatesOf : ℕ → ℕ → List (List Token)
+gatesOf i j = map (λ (g : Gate). Variable i ∷ (Variable j ∷ (Binary g ∷ []))) (And ∷ (Or ∷ (Xor ∷ (Add ∷ (Mul ∷ [])))))
+
+-- 01, Bank: per i ≠ j: vi + Neg vj
+unfoldable pub differenceOf : ℕ → ℕ → List (List Token)
+differenceOf i j = elim (eqb i j) [ true ↦ [] | false ↦ (Variable i ∷ (Variable j ∷ (Neg ∷ (Binary Add ∷ [])))) ∷ [] ]
+
+unfoldable pub stock : ℕ → ℕ → List (List Token)
+unfolding flatMap countUp constants ofVariable gatesOf differenceOf
+stock nv w =
+    constants w
+    ++ (flatMap ofVariable (countUp 0 nv)
+    ++ (flatMap (λ (i : ℕ). flatMap (gatesOf i) (countUp i (nv - i))) (countUp 0 nv)
+    ++ flatMap (λ (i : ℕ). flatMap (differenceOf i) (countUp 0 nv)) (countUp 0 nv)))
+
+unfoldable pub orAll : List ℕ → ℕ
+orAll [] = 0
+orAll (x ∷ xs) = bitOr x (orAll xs)
+
+-- the first n words that are not 0
+unfoldable pub firstNonzero : ℕ → List ℕ → List ℕ
+firstNonzero zero xs = []
+firstNonzero (suc n) [] = []
+firstNonzero (suc n) (zero ∷ xs) = firstNonzero (suc n) xs
+firstNonzero (suc n) (suc x ∷ xs) = suc x ∷ firstNonzero n xs
+
+-- 01, Bank: seeds: the OR of the target row, then its first seven nonzero words, repeats counted; zero is never seeded
+unfoldable pub seedsOf : List ℕ → List ℕ
+unfolding orAll firstNonzero
+seedsOf target = firstNonzero 1 (orAll target ∷ []) ++ firstNonzero 7 target
+
+-- 01, Bank: `populate` over lent points, then the seeds of the target
+unfoldable pub bankOf : ℕ → ℕ → List Point → List ℕ → List Atom
+unfolding built stock seedsOf
+bankOf nv w points target = built w points (stock nv w) (Neg ∷ (Not ∷ [])) (seedsOf target)

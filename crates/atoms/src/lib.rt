@@ -1,0 +1,1 @@
+// Atoms by value: small formulas with their cost and row.
