@@ -2,7 +2,7 @@
 //!
 //! `COBRA_SRC` names a folder that holds them as a checkout does (`crates/cobra-core/src/arith.rs` and so on). Each
 //! original is copied to `OUT_DIR` as it is; only `template_decomposer.rs` gets a declaration more at its end, which
-//! makes src/access.rs its child module, so that private functions can be reached. For each parent module of src/lib.rs a
+//! makes src/access/mod.rs its child module, so that private functions can be reached. For each parent module of src/lib.rs a
 //! file of `mod` lines is written, which src/lib.rs includes. Nothing of the originals is kept in this repository.
 
 use std::env;
@@ -69,10 +69,10 @@ fn bring_in(source: &Path, place: &str, out: &Path, module: &str) -> String {
     format!("#[allow(warnings)]\n{}", mod_line(&copy, module))
 }
 
-/// The lines that make src/access.rs a child of the original, with warnings on again.
+/// The lines that make src/access/mod.rs a child of the original, with warnings on again.
 fn access_lines() -> String {
     let package = env::var_os("CARGO_MANIFEST_DIR").expect("cargo sets CARGO_MANIFEST_DIR");
-    let access = Path::new(&package).join("src").join("access.rs");
+    let access = Path::new(&package).join("src/access/mod.rs");
     format!("\n#[warn(warnings)]\n{}", mod_line(&access, "access"))
 }
 

@@ -1,4 +1,5 @@
-// One line of a data file against our own answer. The first number is the kind; data/probe.txt tells what follows.
+// One line of a data file against our own answer. The first number is the kind; the head of each data file tells what follows.
+use crate::formulas;
 use simd::Gate;
 use simd::Match;
 ghost use Prim.Native.Nat.{_+_, _≤_};
@@ -19,12 +20,14 @@ pub fn line_same(line: &[u64]) -> bool {
         6 => matches_same(line),
         7 => bitmask_same(line),
         8 => inverse_same(line),
+        9 => formulas::formula_same(line),
+        10 => formulas::refusal_same(line),
         _ => false,
     }
 }
 
 // A width or a count as a u32; the data holds none that is larger.
-fn narrow(x: u64) -> u32 {
+pub fn narrow(x: u64) -> u32 {
     if x <= 0xffff_ffff {
         x as u32
     } else {

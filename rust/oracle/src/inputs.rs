@@ -26,8 +26,23 @@ impl Inputs {
         z ^ (z >> 31)
     }
 
+    /// A word below 2^width, for a width from 1 to 64.
+    pub fn word_of_width(&mut self, width: u32) -> u64 {
+        self.word() >> (64 - width)
+    }
+
     /// A row of words below 2^width, for a width from 1 to 64.
     pub fn row(&mut self, width: u32) -> Row {
-        std::array::from_fn(|_| self.word() >> (64 - width))
+        std::array::from_fn(|_| self.word_of_width(width))
+    }
+
+    /// A number below a small bound.
+    pub fn below(&mut self, bound: u64) -> u64 {
+        self.word() % bound
+    }
+
+    /// One of a few.
+    pub fn one_of<T: Copy>(&mut self, items: &[T]) -> T {
+        items[self.below(items.len() as u64) as usize]
     }
 }

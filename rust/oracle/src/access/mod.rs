@@ -2,9 +2,20 @@
 //!
 //! build.rs makes this file a child module of that original, so `super` is the original. Widths are handed in as
 //! numbers and become masks by the original `bitmask`; gates are their numbers (0 And, 1 Or, 2 Xor, 3 Add, 4 Mul).
-//! Nothing is refused here: what the original does not expect, it is not to be asked.
+//! Nothing is refused here: what the original does not expect, it is not to be asked. This file has words, points and
+//! gates on rows; its child modules have the rest.
+
+mod bank;
+mod formulas;
+mod index;
+mod search;
 
 use super::{ProbeVals, ALL_GATES, N_PROBES};
+
+pub use bank::{bank, AtomView};
+pub use formulas::{compute_cost, eval, Cost, Formula};
+pub use index::{index, IndexView};
+pub use search::{candidates, layer1, layer2, product_loop, product_loops, two_atoms};
 
 /// A row: the values at the sixteen points.
 pub type Row = [u64; N_PROBES];

@@ -1,0 +1,182 @@
+//! The differences by named inputs: those known before, and the smallest that `smallest` finds. Each is asked anew, and both
+//! answers must be as stated.
+
+use oracle::access::{self, Formula, Row};
+
+use super::{one_variable, repeated, Setting, PAIRS_MAX};
+use crate::spec::formulas::{CONSTANT, VARIABLE};
+use crate::spec::search::{self, Answer};
+
+/// An input of one variable: the bank's width, points and target (one word throughout), the width of index and search, the
+/// row searched for; then the specification's answer and the Rust's.
+struct Input {
+    name: &'static str,
+    bank_width: u32,
+    points: &'static [u64],
+    bank_target: u64,
+    width: u32,
+    target: &'static [u64],
+    answer: Answer,
+    rust: Option<(usize, usize)>,
+}
+
+const PRODUCT_LOOP: [Input; 4] = [
+    Input {
+        name: "D1, known",
+        bank_width: 3,
+        points: &[0, 1, 2, 3, 4, 5, 6, 7],
+        bank_target: 0,
+        width: 2,
+        target: &[3, 1, 3, 3],
+        answer: Answer::AtomAndPair(1, 92),
+        rust: None,
+    },
+    Input {
+        name: "D1, least widths",
+        bank_width: 3,
+        points: &[0, 1, 2, 3],
+        bank_target: 0,
+        width: 2,
+        target: &[3, 1, 3, 3],
+        answer: Answer::AtomAndPair(1, 74),
+        rust: None,
+    },
+    Input {
+        name: "D1, fewest atoms",
+        bank_width: 6,
+        points: &[0],
+        bank_target: 4,
+        width: 5,
+        target: &[25],
+        answer: Answer::AtomAndPair(1, 6),
+        rust: None,
+    },
+    Input {
+        name: "D1, fewest atoms where the Rust finds another pair",
+        bank_width: 5,
+        points: &[0],
+        bank_target: 10,
+        width: 4,
+        target: &[5],
+        answer: Answer::AtomAndPair(1, 4),
+        rust: Some((3, 3)),
+    },
+];
+
+const FIRST_STAGE: [Input; 3] = [
+    Input {
+        name: "D2, known",
+        bank_width: 2,
+        points: &[0, 1, 2, 3],
+        bank_target: 0,
+        width: 2,
+        target: &[0, 1],
+        answer: Answer::TwoAtoms(1, 8),
+        rust: Some((4, 4)),
+    },
+    Input {
+        name: "D2, least width",
+        bank_width: 2,
+        points: &[0, 2],
+        bank_target: 0,
+        width: 2,
+        target: &[1, 3],
+        answer: Answer::TwoAtoms(1, 6),
+        rust: Some((3, 5)),
+    },
+    Input {
+        name: "D2, fewest atoms",
+        bank_width: 3,
+        points: &[0],
+        bank_target: 0,
+        width: 3,
+        target: &[6],
+        answer: Answer::TwoAtoms(1, 4),
+        rust: Some((2, 3)),
+    },
+];
+
+pub fn print() {
+    for input in &PRODUCT_LOOP {
+        let (setting, target) = ask(input);
+        assert_eq!(setting.product_loop(target), input.rust);
+        println!("  Rust's product loop: {:?}", input.rust);
+    }
+    for input in &FIRST_STAGE {
+        let (setting, target) = ask(input);
+        assert_eq!(setting.two_atoms(target), input.rust);
+        println!("  Rust's layer 1, Mul: {:?}", input.rust);
+        if let Some((a, b)) = input.rust {
+            print_product(&setting, a, b);
+        }
+    }
+    print_lent();
+}
+
+/// Prints the input and the specification's answer.
+fn ask(input: &Input) -> (Setting, Row) {
+    let points = one_variable(input.points);
+    let bank_target = [input.bank_target; 16];
+    let atoms = access::bank(1, input.bank_width, &points, bank_target);
+    let setting = Setting::new(atoms, PAIRS_MAX, input.width);
+    let target = repeated(input.target);
+    println!(
+        "{}: bank of width {} at the points {:?}, bank target all {}: {} atoms; width {}: {} pairs; target {:?}",
+        input.name,
+        input.bank_width,
+        input.points,
+        input.bank_target,
+        setting.rows.len(),
+        input.width,
+        setting.index.pairs.len(),
+        input.target,
+    );
+    assert_eq!(setting.try_everything(&target), input.answer);
+    println!("  trying everything: {:?}", input.answer);
+    match input.answer {
+        Answer::AtomAndPair(_, pair) => print_pair(&setting, pair, input.points.len()),
+        Answer::TwoAtoms(a, b) => print_product(&setting, a, b),
+        Answer::Nothing => {}
+    }
+    (setting, target)
+}
+
+fn print_pair(setting: &Setting, pair: usize, words: usize) {
+    let [gate, b, c] = setting.index.pairs[pair];
+    let row = &setting.index.rows[pair][..words];
+    println!("    gate {gate} of atoms {b} and {c}, row {row:?}");
+}
+
+fn print_product(setting: &Setting, a: usize, b: usize) {
+    let [a, b] = [a, b].map(|slot| text(&setting.atoms[slot].formula));
+    println!("    {a} times {b}");
+}
+
+/// A formula as the listing program writes it.
+fn text(formula: &Formula) -> String {
+    let token = |(op, operand): (u8, u64)| match op {
+        CONSTANT => format!("c{operand}"),
+        VARIABLE => format!("v{operand}"),
+        _ => ["+", "*", "&", "|", "^", "!", "-"][usize::from(op) - 2].to_string(),
+    };
+    let tokens: Vec<String> = formula.tokens().map(token).collect();
+    format!("`{}`", tokens.join(" "))
+}
+
+/// D1 by lent rows that no build made, each of one word: with an index of its own, and with a pair that no gate gives.
+fn print_lent() {
+    let own = access::index(&[[13; 16], [1; 16]], 3, PAIRS_MAX);
+    let own_words: Vec<u64> = own.rows.iter().map(|row| row[0]).collect();
+    print_lent_case("index of its own", &[13, 1], &own_words, 3, 4);
+    print_lent_case("any index", &[1], &[2], 1, 0);
+}
+
+fn print_lent_case(name: &str, atoms: &[u64], pairs: &[u64], width: u32, target: u64) {
+    let rows = |words: &[u64]| -> Vec<Row> { words.iter().map(|&word| [word; 16]).collect() };
+    let (atom_rows, pair_rows, target_row) = (rows(atoms), rows(pairs), [target; 16]);
+    let order = search::order_list(pairs);
+    let answer = search::try_everything(&target_row, &atom_rows, &pair_rows, &order, width);
+    let rust = access::product_loop(target_row, &atom_rows, &pair_rows, width);
+    println!("D1, lent rows, {name}: width {width}, atoms all {atoms:?}, pairs all {pairs:?}, target all {target}");
+    println!("  trying everything: {answer:?}; Rust's product loop: {rust:?}");
+}

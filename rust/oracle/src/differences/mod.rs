@@ -1,0 +1,103 @@
+//! Where the originals' search for products differs from the specification, as text for a reader. `known` and `smallest` are
+//! about the two differences that there are; `random` looks for more where none is expected.
+//!
+//! D1: the Rust's filter misses pairs whose first word is not below 2^w. That takes a bank of a greater width than the
+//! index and the search. D2: the Rust's first stage keeps the cheapest two atoms, the specification the first.
+
+mod known;
+mod random;
+mod smallest;
+
+use oracle::access::{self, AtomView, Cost, Formula, IndexView, Row};
+
+use crate::spec::formulas as spec;
+use crate::spec::search::{self, Answer};
+
+/// The Rust's limit of an index.
+const PAIRS_MAX: usize = 1 << 18;
+
+/// Prints everything.
+pub fn print() {
+    known::print();
+    smallest::print();
+    random::print();
+}
+
+/// A bank with an index of its own, and the width of the index and of the search.
+struct Setting {
+    atoms: Vec<AtomView>,
+    rows: Vec<Row>,
+    index: IndexView,
+    width: u32,
+}
+
+impl Setting {
+    fn new(atoms: Vec<AtomView>, limit: usize, width: u32) -> Self {
+        let rows: Vec<Row> = atoms.iter().map(|atom| atom.row).collect();
+        let index = access::index(&rows, width, limit);
+        Self {
+            atoms,
+            rows,
+            index,
+            width,
+        }
+    }
+
+    fn try_everything(&self, target: &Row) -> Answer {
+        search::try_everything(
+            target,
+            &self.rows,
+            &self.index.rows,
+            &self.index.order,
+            self.width,
+        )
+    }
+
+    fn second_stage(&self, target: &Row) -> Option<(usize, usize)> {
+        search::second_stage(
+            target,
+            &self.rows,
+            &self.index.rows,
+            &self.index.order,
+            self.width,
+        )
+    }
+
+    fn product_loop(&self, target: Row) -> Option<(usize, usize)> {
+        access::product_loop(target, &self.rows, &self.index.rows, self.width)
+    }
+
+    fn two_atoms(&self, target: Row) -> Option<(usize, usize)> {
+        access::two_atoms(target, &self.atoms, self.width)
+    }
+
+    /// The cost of the product of two atoms.
+    fn product_cost(&self, (a, b): (usize, usize)) -> Cost {
+        let [left, right] = [a, b].map(|slot| &self.atoms[slot].formula);
+        spec::cost(&joined(left, right, spec::MUL))
+    }
+}
+
+/// Two formulas under a gate.
+fn joined(left: &Formula, right: &Formula, gate: u8) -> Formula {
+    let mut formula = left.clone();
+    formula.ops.extend(&right.ops);
+    formula.operands.extend(&right.operands);
+    formula.push(gate, 0);
+    formula
+}
+
+/// Sixteen words: the given ones over and over.
+fn repeated(words: &[u64]) -> Row {
+    std::array::from_fn(|place| words[place % words.len()])
+}
+
+/// Sixteen points: the given ones over and over.
+fn repeated_points(points: &[Vec<u64>]) -> Vec<Vec<u64>> {
+    points.iter().cycle().take(16).cloned().collect()
+}
+
+/// Sixteen points of one variable.
+fn one_variable(words: &[u64]) -> Vec<Vec<u64>> {
+    repeated(words).iter().map(|&word| vec![word]).collect()
+}

@@ -1,0 +1,5 @@
+//! The specification stated once more in plain Rust, by other means than the originals: no trees, no masks, no filter; words
+//! in u128. What the originals answer is held against it, and it answers where the originals are not to be asked.
+
+pub mod formulas;
+pub mod search;
