@@ -2,10 +2,10 @@
 use mathlib.Core.Path.{sym}
 use mathlib.Core.Logic.{inl, inr}
 use mathlib.Core.List.{List}
-use Prim.Native.Nat.{ℕ, _≤_, _*_, _-_}
+use Prim.Native.Nat.{ℕ, _≤_, _-_}
 use lib.ListN.{take}
 use Rattle.order.specs.Order.{isOrder}
-use Rattle.order.proofs.Tested.{Passed, passed-none, passed-more, passed-all, fails-low, fails-word, fails-slot, is-false}
+use Rattle.order.proofs.Tested.{Passed, passed-more, passed-all, fails-low, fails-word, fails-slot, is-false}
 use borrow.Author.Needs.{needs}
 use native.Mathlib.Omega.{arith}
 use Rattle.order.proofs.inner.is_order.Statement.{statement}
