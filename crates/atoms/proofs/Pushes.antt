@@ -79,26 +79,27 @@ replaced-cons : (t : Bool) (b : Atom) (bank : List Atom) (k : ℕ) (a : Atom) �
 replaced-cons true b bank k a = refl
 replaced-cons false b bank k a = refl
 
-push-first : (bank : List Atom) (a : Atom) (k : ℕ) → First bank (a .row) k → push bank a ≡ replaced (isBetter (a .cost) (getD bank k noAtom .cost)) bank k a
+-- a row already held: by whether the atom is better than the first with its row
+pub push-held : (bank : List Atom) (a : Atom) (k : ℕ) → First bank (a .row) k → push bank a ≡ replaced (isBetter (a .cost) (getD bank k noAtom .cost)) bank k a
 unfolding push
-push-first [] a k f = absurd (omega (arith, f .below))
-push-first (b ∷ bank) a zero f = rw (same-row-of (f .same), push) (go (isBetter (a .cost) (b .cost)))
+push-held [] a k f = absurd (omega (arith, f .below))
+push-held (b ∷ bank) a zero f = rw (same-row-of (f .same), push) (go (isBetter (a .cost) (b .cost)))
   where
     go : (t : Bool) → elim t as (λ (x : Bool). List Atom) [ true ↦ a ∷ bank | false ↦ b ∷ bank ] ≡ replaced t (b ∷ bank) 0 a
     go true = refl
     go false = refl
-push-first (b ∷ bank) a (suc k) f =
+push-held (b ∷ bank) a (suc k) f =
     rw (same-row-not (b .row) (a .row) (f .before 0 (omega arith)), push)
-    (ap (λ (l : List Atom). b ∷ l) (push-first bank a k (record { below = omega (arith, f .below); same = f .same; before = λ j l. f .before (suc j) (omega arith) }))
+    (ap (λ (l : List Atom). b ∷ l) (push-held bank a k (record { below = omega (arith, f .below); same = f .same; before = λ j l. f .before (suc j) (omega arith) }))
     ∙ replaced-cons (isBetter (a .cost) (getD bank k noAtom .cost)) b bank k a)
 
--- a row already held replaces that slot's atom if strictly better
+-- it replaces that atom if strictly better
 pub push-better : (bank : List Atom) (a : Atom) (k : ℕ) → First bank (a .row) k → isBetter (a .cost) (getD bank k noAtom .cost) ≡ true → push bank a ≡ set bank k a
-push-better bank a k f e = push-first bank a k f ∙ ap (λ (t : Bool). replaced t bank k a) e
+push-better bank a k f e = push-held bank a k f ∙ ap (λ (t : Bool). replaced t bank k a) e
 
 -- and leaves the bank otherwise
 pub push-worse : (bank : List Atom) (a : Atom) (k : ℕ) → First bank (a .row) k → isBetter (a .cost) (getD bank k noAtom .cost) ≡ false → push bank a ≡ bank
-push-worse bank a k f e = push-first bank a k f ∙ ap (λ (t : Bool). replaced t bank k a) e
+push-worse bank a k f e = push-held bank a k f ∙ ap (λ (t : Bool). replaced t bank k a) e
 
 -- what holds of the bank in each of the three cases holds of the bank after the push
 pub push-cases : (P : List Atom → Type 0) (bank : List Atom) (a : Atom)
