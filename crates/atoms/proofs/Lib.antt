@@ -1,3 +1,6 @@
 -- The laws of this crate, which the crates above cite too.
+pub mod Lists
 pub mod Pushes
 pub mod Encodings
+pub mod Growth
+pub mod Soundness
