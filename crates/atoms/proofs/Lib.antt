@@ -4,3 +4,5 @@ pub mod Pushes
 pub mod Encodings
 pub mod Growth
 pub mod Soundness
+pub mod Stocks
+pub mod Banks

@@ -79,6 +79,10 @@ fits-tokens nv n ts f = omega (arith, tokens-le-size nv ts (f .formula), f .size
 pub fits-constant : (nv n v : ℕ) → 1 ≤ n → Fits nv n (constantForm v)
 fits-constant nv n v h = record { formula = constant-passes nv v; size = subst (λ (c : CostInfo). c .cost .size ≤ n) (sym (info-constant v)) h }
 
+pub fits-constants : (nv n : ℕ) → 1 ≤ n → (vs : List ℕ) → Every (Fits nv n) (map constantForm vs)
+fits-constants nv n h [] = tt
+fits-constants nv n h (v ∷ vs) = (fits-constant nv n v h, fits-constants nv n h vs)
+
 -- ---- unary tokens: they add 1 to the size
 pub record Unary (u : Token) : Type 0 where
   pub passes : (nv : ℕ) (f : List Token) → isFormula nv f ≡ true → length f ≤ 63 → isFormula nv (f ++ (u ∷ [])) ≡ true
@@ -148,3 +152,34 @@ module _ (nv w : ℕ) (points : List Point) (n : ℕ) (few : n ≤ 63) (unaries 
       let g : Grows bank next = turn-grows w points unaries bank k in
       turns-sound next (suc k) m (turn-sound bank k s (omega arith) (small k (omega arith) (omega arith))) (omega arith)
       (λ j a b. omega (arith, g .sizes j (omega arith), small j (omega arith) (omega arith)))
+
+-- ---- a whole build, over any formulas, unary tokens and seeds
+module _ (nv w : ℕ) (points : List Point) (n : ℕ) (few : n ≤ 63) (formulas : List (List Token)) (unaries : List Token) (fits : Every (Fits nv n) formulas) (un : Every Unary unaries) where
+  -- before the turns
+  pub base-sound : Sound nv w points n (pushAll w points [] formulas)
+  base-sound = pushAll-sound nv w points n [] formulas fits (sound-none nv w points n)
+
+  -- before the turn of slot t, and after the last turn
+  pub turned-sound : (t : ℕ) → t ≤ length (pushAll w points [] formulas) → Sound nv w points (n + 1) (turns w points unaries (pushAll w points [] formulas) 0 t)
+  turned-sound t h =
+      let base : List Atom = pushAll w points [] formulas in
+      turns-sound nv w points n few unaries un base 0 t (sound-more nv w points n (n + 1) (omega arith) base base-sound) (omega arith)
+      (λ j a b. sound-at nv w points n base base-sound j (omega arith) .size)
+
+  -- at each turn the slots of the base still hold formulas of size at most n
+  pub base-at-turn : (t : ℕ) → t ≤ length (pushAll w points [] formulas) → (k : ℕ) → k < length (pushAll w points [] formulas)
+      → Fine nv w points n (getD (turns w points unaries (pushAll w points [] formulas) 0 t) k noAtom)
+  base-at-turn t h k l =
+      let base : List Atom = pushAll w points [] formulas in
+      let now : List Atom = turns w points unaries base 0 t in
+      let g : Grows base now = turns-grows w points unaries base 0 t in
+      record {
+        sound = sound-at nv w points (n + 1) now (turned-sound t h) k (omega (arith, g .longer)) .sound;
+        size = omega (arith, g .sizes k l, sound-at nv w points n base base-sound k l .size);
+      }
+
+  pub built-sound : (seeds : List ℕ) → Sound nv w points (n + 1) (built w points formulas unaries seeds)
+  unfolding built
+  built-sound seeds =
+      let base : List Atom = pushAll w points [] formulas in
+      pushAll-sound nv w points (n + 1) (turns w points unaries base 0 (length base)) (map constantForm seeds) (fits-constants nv (n + 1) (omega arith) seeds) (turned-sound (length base) (omega arith))
