@@ -6,3 +6,4 @@ pub mod Growth
 pub mod Soundness
 pub mod Stocks
 pub mod Banks
+pub mod SheetDraft
