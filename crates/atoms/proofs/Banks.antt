@@ -1,5 +1,4 @@
 -- The theorems of specs/Facts on every bank that 01's build gives: the general facts of Growth and Soundness at 01's stock, unary tokens and seeds. Assumes nothing.
-use mathlib.Core.Path.{_≡_}
 use mathlib.Core.List.{List, [], _∷_}
 use Prim.Native.Nat.{ℕ, _+_, _*_, _≤_, _<_}
 use native.Mathlib.Omega.{arith}
@@ -9,10 +8,10 @@ use Rattle.expr.specs.declared.Token.the-variants.{Not, Neg}
 use Rattle.probe.specs.declared.Point.{Point}
 use Rattle.atoms.specs.Bank.{Atom, noAtom}
 use Rattle.atoms.specs.Stock.{stock, seedsOf, bankOf}
-use Rattle.atoms.specs.Facts.{SoundAtom, SoundBank, baseOf, beforeTurn, Complete, BankIsSound, BankIsComplete, BankIsWide}
+use Rattle.atoms.specs.Facts.{baseOf, beforeTurn, BankIsSound, BankIsComplete, BankIsWide}
 use Rattle.atoms.proofs.Lists.{Every}
 use Rattle.atoms.proofs.Growth.{pushAll-few, turns-few, built-few, built-formula, built-turn, built-seed}
-use Rattle.atoms.proofs.Soundness.{Fine, Fits, fine-fits, fits-tokens, sound-row, Unary, neg-unary, not-unary, Sound, sound-at, base-sound, turned-sound, base-at-turn, built-sound}
+use Rattle.atoms.proofs.Soundness.{Fine, fine-fits, fits-tokens, sound-row, Unary, neg-unary, not-unary, Sound, sound-at, base-sound, turned-sound, base-at-turn, built-sound}
 use Rattle.atoms.proofs.Stocks.{stock-fits, stock-few, seeds-few}
 
 -- 01, Bank: Neg and Not

@@ -1,10 +1,9 @@
 -- Laws of the five arrays: a part always has its stride's length, so that a bank with one atom replaced, or with one more, is the same arrays with one part put;
 -- and what was written is read back. Assumes nothing.
 use mathlib.Core.Path.{_≡_, refl, sym, ap, ap₂, _∙_}
-use mathlib.Core.Bool.{Bool, true, false}
+use mathlib.Core.Bool.{true}
 use mathlib.Core.List.{List, [], _∷_, _++_, map}
-use Prim.Native.Nat.{ℕ, zero, suc, _+_, _*_, _≤_, _<_}
-use native.Mathlib.Numerals.{add-one}
+use Prim.Native.Nat.{ℕ, zero, suc, _*_, _≤_, _<_}
 use native.Mathlib.Omega.{arith}
 use lib.ListN.{length, getD, set, take, drop, length-append, length-map, length-set}
 use lib.Seq.{take-suc, take-length}
@@ -20,6 +19,7 @@ use Rattle.expr.proofs.Tokens.{token-in}
 use Rattle.expr.proofs.Machine.{and-left, and-right, passed}
 use Rattle.atoms.specs.Bank.{Atom, noAtom}
 use Rattle.atoms.specs.Encoding.{opcodeOf, operandOf, padTo, lengthPart, opsPart, operandsPart, costNumbers, costPart, rowPart, Arrays, spread, written}
+use Rattle.atoms.proofs.Lists.{getD-map}
 
 -- ---- padding
 pub length-pad : (s d : ℕ) (l : List ℕ) → length (padTo s d l) ≡ s
@@ -180,15 +180,10 @@ token-back Not n = refl
 token-back Neg n = refl
 token-back Bad n = absurd (n refl)
 
-getD-map : (f : Token → ℕ) (ts : List Token) (k e : ℕ) (d : Token) → k < length ts → getD (map f ts) k e ≡ f (getD ts k d)
-getD-map f [] k e d h = absurd (omega arith)
-getD-map f (t ∷ ts) zero e d h = refl
-getD-map f (t ∷ ts) (suc k) e d h = getD-map f ts k e d (omega arith)
-
 pad-map : (d : ℕ) (f : Token → ℕ) (ts : List Token) (k : ℕ) → length ts ≤ 6 → k < length ts → getD (padTo 6 d (map f ts)) k 0 ≡ f (getD ts k Bad)
 pad-map d f ts k h m =
     let e : length (map f ts) ≡ length ts = length-map ts f in
-    getD-pad 6 d (map f ts) k 0 (omega arith) (omega arith) ∙ getD-map f ts k 0 Bad m
+    getD-pad 6 d (map f ts) k 0 (omega arith) (omega arith) ∙ getD-map f ts k Bad 0 m
 
 -- tokens that are read one by one
 tokens-are : (ops operands : List ℕ) (ts : List Token) → ((k : ℕ) → k < length ts → tokenAt ops operands k ≡ getD ts k Bad) → (n : ℕ) → n ≤ length ts → tokens n ops operands ≡ take n ts

@@ -19,7 +19,7 @@ use Rattle.probe.specs.FormulaRow.{rowOf}
 use Rattle.atoms.specs.Bank.{Atom, noAtom, atomOf, push, pushAll, turn, turns, built}
 use Rattle.atoms.specs.Facts.{Holds}
 use Rattle.atoms.proofs.Lists.{getD-map}
-use Rattle.atoms.proofs.Pushes.{First, Absent, push-cases, push-one-more}
+use Rattle.atoms.proofs.Pushes.{First, push-cases, push-one-more}
 
 pub record Grows (bank later : List Atom) : Type 0 where
   pub longer : length bank ≤ length later

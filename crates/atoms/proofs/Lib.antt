@@ -2,6 +2,7 @@
 pub mod Lists
 pub mod Pushes
 pub mod Encodings
+pub mod AtomRows
 pub mod Growth
 pub mod Soundness
 pub mod Stocks

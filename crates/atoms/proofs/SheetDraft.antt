@@ -1,13 +1,12 @@
 -- A draft of 01's bench sheet, for the bank: P1, P2, P9 and P10, by computation. Assumes nothing.
 use mathlib.Core.Path.{_≡_, refl}
-use mathlib.Core.Bool.{Bool, true, false}
 use mathlib.Core.List.{List, [], _∷_, _++_, map}
 use Prim.Native.Nat.{ℕ, zero, suc}
 use lib.ListN.{length, getD, replicate}
-use Rattle.simd.specs.Gates.{gateOf, sameRow}
+use Rattle.simd.specs.Gates.{gateOf}
 use Rattle.simd.specs.declared.Gate.the-variants.{Mul}
 use Rattle.expr.specs.declared.Token.{Token}
-use Rattle.expr.specs.declared.Token.the-variants.{Constant, Variable, Binary, Not, Neg}
+use Rattle.expr.specs.declared.Token.the-variants.{Constant, Variable, Binary, Not}
 use Rattle.expr.specs.declared.Cost.{Cost}
 use Rattle.expr.specs.Cost.{infoOf}
 use Rattle.probe.specs.declared.Point.{Point}

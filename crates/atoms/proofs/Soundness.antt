@@ -2,20 +2,19 @@
 -- ever given a formula that is no larger. For any formulas, unary tokens and seeds. Assumes nothing.
 use mathlib.Core.Path.{_≡_, refl, sym, ap, _∙_, subst}
 use mathlib.Core.Bool.{true}
-use mathlib.Core.Logic.{_⊎_, inl, inr}
+use mathlib.Core.Logic.{inl, inr}
 use mathlib.Core.List.{List, [], _∷_, _++_, map}
 use Prim.Native.Nat.{ℕ, zero, suc, _+_, _≤_, _<_}
-use native.Mathlib.Decide.{ℕ-discrete}
 use native.Mathlib.Omega.{arith}
 use lib.ListN.{length, getD, set, length-append, length-set, List·getD-append}
 use lib.Seq.{getD-at}
 use Rattle.arith.proofs.Remainders.{le-or-lt}
 use Rattle.expr.specs.declared.Token.{Token}
-use Rattle.expr.specs.declared.Token.the-variants.{Constant, Not, Neg}
+use Rattle.expr.specs.declared.Token.the-variants.{Not, Neg}
 use Rattle.expr.specs.declared.Cost.{Cost}
 use Rattle.expr.specs.declared.CostInfo.{CostInfo}
 use Rattle.expr.specs.Formula.{isFormula}
-use Rattle.expr.specs.Cost.{costOf, infoOf}
+use Rattle.expr.specs.Cost.{costOf}
 use Rattle.expr.proofs.Formulas.{info-constant, info-not, info-neg, tokens-le-size, constant-passes, not-passes, neg-passes}
 use Rattle.probe.specs.declared.Point.{Point}
 use Rattle.probe.proofs.FormulaRows.{length-rowOf}
@@ -23,7 +22,7 @@ use Rattle.atoms.specs.Bank.{Atom, noAtom, atomOf, push, pushAll, turn, 
 use Rattle.atoms.specs.Facts.{SoundAtom}
 use Rattle.atoms.proofs.Lists.{Every, every-at, every-append, every-set, every-more, every-map}
 use Rattle.atoms.proofs.Pushes.{Absent, Distinct, push-cases}
-use Rattle.atoms.proofs.Growth.{Grows, set-grows, push-grows, pushAll-grows, turn-grows, turns-grows, constantForm}
+use Rattle.atoms.proofs.Growth.{Grows, set-grows, turn-grows, turns-grows, constantForm}
 
 -- ---- no two atoms share a row
 same-rows-distinct : (bank later : List Atom) → length later ≡ length bank → Grows bank later → Distinct bank → Distinct later

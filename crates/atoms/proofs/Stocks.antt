@@ -1,20 +1,20 @@
 -- The stock's formulas pass the test, have weighted size at most 5 and at most 4 tokens; they are at most 157, and the seeds at most 8. Assumes nothing.
-use mathlib.Core.Path.{_≡_, refl, sym, ap, _∙_, subst}
+use mathlib.Core.Path.{_≡_}
 use mathlib.Core.Bool.{Bool, true, false}
-use mathlib.Core.List.{List, [], _∷_, _++_, map, flatMap}
+use mathlib.Core.List.{List, [], _∷_, _++_, flatMap}
 use Prim.Native.Nat.{ℕ, zero, suc, _+_, _-_, _^_, _≤_, _<_}
 use native.Mathlib.Omega.{arith}
 use lib.Dec.{eqb}
-use lib.ListN.{length, getD, length-append}
+use lib.ListN.{length, length-append}
 use Rattle.simd.specs.declared.Gate.{Gate}
 use Rattle.simd.specs.declared.Gate.the-variants.{And, Or, Xor, Add, Mul}
 use Rattle.expr.specs.declared.Token.{Token}
-use Rattle.expr.specs.declared.Token.the-variants.{Constant, Variable, Binary, Not, Neg}
+use Rattle.expr.specs.declared.Token.the-variants.{Constant, Variable, Binary, Neg}
 use Rattle.expr.specs.Formula.{isFormula, step, run, only, whole, orElse}
 use Rattle.expr.specs.Cost.{isNonlinear, costAlg, infoOf, costOf}
 use Rattle.expr.proofs.Formulas.{constant-passes, variable-passes, not-passes, neg-passes, gate-passes}
 use Rattle.atoms.specs.Stock.{countUp, constants, ofVariable, gatesOf, differenceOf, stock, firstNonzero, seedsOf, orAll}
-use Rattle.atoms.proofs.Lists.{Every, every-append, every-more, every-map, every-flatMap}
+use Rattle.atoms.proofs.Lists.{Every, every-append, every-more, every-flatMap}
 use Rattle.atoms.proofs.Soundness.{Fits}
 
 -- ---- each formula
@@ -39,7 +39,7 @@ module _ (nv i : ℕ) (h : i < nv) where
   var : isFormula nv (Variable i ∷ []) ≡ true
   var = variable-passes nv i h
 
-  stocked-variable : Every (Stocked nv) (ofVariable i)
+  pub stocked-variable : Every (Stocked nv) (ofVariable i)
   unfolding ofVariable infoOf whole run step only orElse costAlg
   stocked-variable = (
     record { formula = var; size = omega arith; tokens = omega arith },
@@ -61,14 +61,14 @@ module _ (nv i : ℕ) (h : i < nv) where
     size-gate Add = omega arith
     size-gate Mul = omega arith
 
-    stocked-gate : (g : Gate) → Stocked nv (Variable i ∷ (Variable j ∷ (Binary g ∷ [])))
+    pub stocked-gate : (g : Gate) → Stocked nv (Variable i ∷ (Variable j ∷ (Binary g ∷ [])))
     stocked-gate g = record { formula = gate-passes nv (Variable i ∷ []) var (Variable j ∷ []) (variable-passes nv j l) g (omega arith); size = size-gate g; tokens = omega arith }
 
     stocked-gates : Every (Stocked nv) (gatesOf i j)
     unfolding gatesOf
     stocked-gates = (stocked-gate And, (stocked-gate Or, (stocked-gate Xor, (stocked-gate Add, (stocked-gate Mul, tt)))))
 
-    stocked-difference : Every (Stocked nv) (differenceOf i j)
+    pub stocked-difference : Every (Stocked nv) (differenceOf i j)
     unfolding differenceOf infoOf whole run step only orElse costAlg isNonlinear
     stocked-difference = go (eqb i j)
       where
