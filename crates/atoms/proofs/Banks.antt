@@ -18,24 +18,30 @@ use Rattle.atoms.proofs.Stocks.{stock-fits, stock-few, seeds-few}
 abbrev pub unaries : List Token
 unaries = Neg ∷ (Not ∷ [])
 
+-- both are unary
 pub unaries-unary : Every Unary unaries
 unaries-unary = (neg-unary, (not-unary, tt))
 
+-- a fine atom of size at most n has at most n tokens
 pub fine-tokens : (nv w : ℕ) (points : List Point) (n : ℕ) (a : Atom) → Fine nv w points n a → length (a .form) ≤ n
 fine-tokens nv w points n a f = fits-tokens nv n (a .form) (fine-fits nv w points n a f)
 
 module _ (nv w : ℕ) (points : List Point) where
   -- ---- before the turns, and at each turn
+  -- at most 157 atoms before the turns
   pub base-few : nv ≤ 6 → length (baseOf nv w points) ≤ 157
   base-few h = omega (arith, pushAll-few w points [] (stock nv w), stock-few nv w h)
 
+  -- all sound and of size at most 5, no two of one row
   pub stock-base-sound : Sound nv w points 5 (baseOf nv w points)
   stock-base-sound = base-sound nv w points 5 (omega arith) (stock nv w) unaries (stock-fits nv w) unaries-unary
 
   module _ (t : ℕ) (h : t ≤ length (baseOf nv w points)) where
+    -- two atoms more for each turn, at most
     pub before-turn-few : length (beforeTurn nv w points t) ≤ length (baseOf nv w points) + 2 * t
     before-turn-few = omega (arith, turns-few w points unaries (baseOf nv w points) 0 t)
 
+    -- all sound and of size at most 6, no two of one row
     pub before-turn-sound : Sound nv w points 6 (beforeTurn nv w points t)
     before-turn-sound = turned-sound nv w points 5 (omega arith) (stock nv w) unaries (stock-fits nv w) unaries-unary t h
 
@@ -45,17 +51,21 @@ module _ (nv w : ℕ) (points : List Point) where
 
   -- ---- the whole bank
   module _ (target : List ℕ) where
+    -- all sound and of size at most 6, no two of one row
     pub bank-sound : Sound nv w points 6 (bankOf nv w points target)
     unfolding bankOf
     bank-sound = built-sound nv w points 5 (omega arith) (stock nv w) unaries (stock-fits nv w) unaries-unary (seedsOf target)
 
+    -- so each slot
     pub bank-fine : (k : ℕ) → k < length (bankOf nv w points target) → Fine nv w points 6 (getD (bankOf nv w points target) k noAtom)
     bank-fine = sound-at nv w points 6 (bankOf nv w points target) bank-sound
 
+    -- 3 × 157 + 8
     pub bank-few : nv ≤ 6 → length (bankOf nv w points target) ≤ 479
     unfolding bankOf
     bank-few h = omega (arith, built-few w points (stock nv w) unaries (seedsOf target), base-few h, seeds-few target)
 
+-- 01, Bank: at most 479 atoms, each of weighted size at most 6 and its formula's; no two share a row
 pub bank-is-sound : BankIsSound
 bank-is-sound nv w points target l h = record {
   few = bank-few nv w points target h;
@@ -65,6 +75,7 @@ bank-is-sound nv w points target l h = record {
   distinct = bank-sound nv w points target .distinct;
 }
 
+-- nothing that was pushed is lost
 pub bank-is-complete : BankIsComplete
 unfolding bankOf
 bank-is-complete nv w points target = record {
@@ -74,5 +85,6 @@ bank-is-complete nv w points target = record {
   seeded = built-seed w points (stock nv w) unaries (seedsOf target);
 }
 
+-- each row has a word for each point
 pub bank-is-wide : BankIsWide
 bank-is-wide nv w points target k h = sound-row nv w points (getD (bankOf nv w points target) k noAtom) (bank-fine nv w points target k h .sound)

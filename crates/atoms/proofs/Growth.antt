@@ -21,14 +21,17 @@ use Rattle.atoms.specs.Facts.{Holds}
 use Rattle.atoms.proofs.Lists.{getD-map}
 use Rattle.atoms.proofs.Pushes.{First, push-cases, push-one-more}
 
+-- `later` has a slot for each of the bank's, with its row, and none of them larger
 pub record Grows (bank later : List Atom) : Type 0 where
   pub longer : length bank ≤ length later
   pub rows : (k : ℕ) → k < length bank → getD later k noAtom .row ≡ getD bank k noAtom .row
   pub sizes : (k : ℕ) → k < length bank → getD later k noAtom .cost .size ≤ getD bank k noAtom .cost .size
 
+-- every bank does so of itself
 pub grows-none : (bank : List Atom) → Grows bank bank
 grows-none bank = record { longer = omega arith; rows = λ k h. refl; sizes = λ k h. omega arith }
 
+-- and step by step
 pub grows-on : (a b c : List Atom) → Grows a b → Grows b c → Grows a c
 grows-on a b c p q = record {
   longer = omega (arith, p .longer, q .longer);
@@ -71,11 +74,13 @@ add-grows bank a = record {
   sizes = λ k h. subst (λ (x : Atom). x .cost .size ≤ getD bank k noAtom .cost .size) (sym (List·getD-append bank (a ∷ []) noAtom k h)) (omega arith);
 }
 
+-- a push does
 pub push-grows : (bank : List Atom) (a : Atom) → Grows bank (push bank a)
 push-grows bank a =
     push-cases (λ (l : List Atom). Grows bank l) bank a (λ k f e. set-grows bank k a f e) (λ k f e. grows-none bank) (λ n. add-grows bank a)
 
 -- ---- what is held
+-- what a bank holds, it still holds when it has grown
 pub holds-later : (bank later : List Atom) (row : List ℕ) → Grows bank later → Holds bank row → Holds later row
 holds-later bank later row g h = record { slot = h .slot; below = omega (arith, g .longer, h .below); same = g .rows (h .slot) (h .below) ∙ h .same }
 
@@ -89,6 +94,7 @@ push-holds bank a =
 
 module _ (w : ℕ) (points : List Point) where
   -- ---- a list of formulas
+  -- so does a list of pushes
   pub pushAll-grows : (bank : List Atom) (fs : List (List Token)) → Grows bank (pushAll w points bank fs)
   unfolding pushAll
   pushAll-grows bank [] = grows-none bank
@@ -113,16 +119,19 @@ module _ (w : ℕ) (points : List Point) where
 
   -- ---- turns
   module _ (unaries : List Token) where
+    -- a turn grows the bank
     pub turn-grows : (bank : List Atom) (k : ℕ) → Grows bank (turn w points unaries bank k)
     unfolding turn
     turn-grows bank k = pushAll-grows bank (map (λ (u : Token). getD bank k noAtom .form ++ (u ∷ [])) unaries)
 
+    -- by one slot for each unary token, at most
     pub turn-few : (bank : List Atom) (k : ℕ) → length (turn w points unaries bank k) ≤ length bank + length unaries
     unfolding turn
     turn-few bank k =
         let fs : List (List Token) = map (λ (u : Token). getD bank k noAtom .form ++ (u ∷ [])) unaries in
         omega (arith, pushAll-few bank fs, length-map unaries (λ (u : Token). getD bank k noAtom .form ++ (u ∷ [])))
 
+    -- and holds the row of each unary token after the slot's formula
     pub turn-holds : (bank : List Atom) (k i : ℕ) → i < length unaries → Holds (turn w points unaries bank k) (rowOf w points (getD bank k noAtom .form ++ (getD unaries i Bad ∷ [])))
     unfolding turn
     turn-holds bank k i h =
@@ -130,6 +139,7 @@ module _ (w : ℕ) (points : List Point) where
         subst (λ (ts : List Token). Holds (pushAll w points bank (map f unaries)) (rowOf w points ts)) (getD-map f unaries i Bad [] h)
         (pushAll-holds bank (map f unaries) i (omega (arith, length-map unaries f)))
 
+    -- turns grow the bank
     pub turns-grows : (bank : List Atom) (k n : ℕ) → Grows bank (turns w points unaries bank k n)
     unfolding turns
     turns-grows bank k zero = grows-none bank
@@ -162,6 +172,7 @@ abbrev pub constantForm : ℕ → List Token
 constantForm v = Constant v ∷ []
 
 module _ (w : ℕ) (points : List Point) (formulas : List (List Token)) (unaries : List Token) (seeds : List ℕ) where
+  -- the base, a slot for each unary token at each base atom's turn, and the seeds, at most
   pub built-few : length (built w points formulas unaries seeds)
       ≤ length (pushAll w points [] formulas) + length (pushAll w points [] formulas) * length unaries + length seeds
   unfolding built

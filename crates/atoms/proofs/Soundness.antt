@@ -41,6 +41,7 @@ add-distinct bank a none d i j l h q =
     row-below : (k : ℕ) → k < length bank → getD (bank ++ (a ∷ [])) k noAtom .row ≡ getD bank k noAtom .row
     row-below k m = ap (λ (x : Atom). x .row) (List·getD-append bank (a ∷ []) noAtom k m)
 
+-- a push keeps rows distinct: it adds one only if no slot has it
 pub push-distinct : (bank : List Atom) (a : Atom) → Distinct bank → Distinct (push bank a)
 push-distinct bank a d =
     push-cases (λ (l : List Atom). Distinct l) bank a
@@ -58,13 +59,16 @@ pub record Fits (nv n : ℕ) (ts : List Token) : Type 0 where
   pub size : costOf ts .size ≤ n
 
 module _ (nv w : ℕ) (points : List Point) where
+  -- a formula that fits makes a fine atom
   pub atom-fine : (n : ℕ) (ts : List Token) → Fits nv n ts → Fine nv w points n (atomOf w points ts)
   unfolding atomOf
   atom-fine n ts f = record { sound = record { row = refl; cost = refl; formula = f .formula }; size = f .size }
 
+  -- and a fine atom's formula fits
   pub fine-fits : (n : ℕ) (a : Atom) → Fine nv w points n a → Fits nv n (a .form)
   fine-fits n a f = record { formula = f .sound .formula; size = subst (λ (c : Cost). c .size ≤ n) (f .sound .cost) (f .size) }
 
+  -- a larger bound holds too
   pub fine-more : (m n : ℕ) → m ≤ n → (a : Atom) → Fine nv w points m a → Fine nv w points n a
   fine-more m n h a f = record { sound = f .sound; size = omega (arith, f .size) }
 
@@ -72,12 +76,15 @@ module _ (nv w : ℕ) (points : List Point) where
   pub sound-row : (a : Atom) → SoundAtom nv w points a → length (a .row) ≡ length points
   sound-row a s = ap length (s .row) ∙ length-rowOf w points (a .form)
 
+-- a formula of weighted size at most n has at most n tokens
 pub fits-tokens : (nv n : ℕ) (ts : List Token) → Fits nv n ts → length ts ≤ n
 fits-tokens nv n ts f = omega (arith, tokens-le-size nv ts (f .formula), f .size)
 
+-- a constant has size 1
 pub fits-constant : (nv n v : ℕ) → 1 ≤ n → Fits nv n (constantForm v)
 fits-constant nv n v h = record { formula = constant-passes nv v; size = subst (λ (c : CostInfo). c .cost .size ≤ n) (sym (info-constant v)) h }
 
+-- so have all seeds
 pub fits-constants : (nv n : ℕ) → 1 ≤ n → (vs : List ℕ) → Every (Fits nv n) (map constantForm vs)
 fits-constants nv n h [] = tt
 fits-constants nv n h (v ∷ vs) = (fits-constant nv n v h, fits-constants nv n h vs)
@@ -87,12 +94,15 @@ pub record Unary (u : Token) : Type 0 where
   pub passes : (nv : ℕ) (f : List Token) → isFormula nv f ≡ true → length f ≤ 63 → isFormula nv (f ++ (u ∷ [])) ≡ true
   pub size : (nv : ℕ) (f : List Token) → isFormula nv f ≡ true → costOf (f ++ (u ∷ [])) .size ≡ costOf f .size + 1
 
+-- Neg is such a token
 pub neg-unary : Unary Neg
 neg-unary = record { passes = λ nv f h l. neg-passes nv f h l; size = λ nv f h. ap (λ (c : CostInfo). c .cost .size) (info-neg nv f h) }
 
+-- and so is Not
 pub not-unary : Unary Not
 not-unary = record { passes = λ nv f h l. not-passes nv f h l; size = λ nv f h. ap (λ (c : CostInfo). c .cost .size) (info-not nv f h) }
 
+-- a unary token after a formula of size at most n, small enough for the test
 pub fits-unary : (nv n : ℕ) (u : Token) (f : List Token) → n ≤ 63 → Unary u → Fits nv n f → Fits nv (n + 1) (f ++ (u ∷ []))
 fits-unary nv n u f h un fits = record {
   formula = un .passes nv f (fits .formula) (omega (arith, fits-tokens nv n f fits));
@@ -100,20 +110,25 @@ fits-unary nv n u f h un fits = record {
 }
 
 -- ---- a bank
+-- every atom fine, and no two of one row
 pub record Sound (nv w : ℕ) (points : List Point) (n : ℕ) (bank : List Atom) : Type 0 where
   pub atoms : Every (Fine nv w points n) bank
   pub distinct : Distinct bank
 
 module _ (nv w : ℕ) (points : List Point) (n : ℕ) where
+  -- the empty bank
   pub sound-none : Sound nv w points n []
   sound-none = record { atoms = tt; distinct = λ i j l h. omega arith }
 
+  -- each slot of a sound bank is fine
   pub sound-at : (bank : List Atom) → Sound nv w points n bank → (k : ℕ) → k < length bank → Fine nv w points n (getD bank k noAtom)
   sound-at bank s = every-at (Fine nv w points n) bank noAtom (s .atoms)
 
+  -- a larger bound holds too
   pub sound-more : (m : ℕ) → n ≤ m → (bank : List Atom) → Sound nv w points n bank → Sound nv w points m bank
   sound-more m h bank s = record { atoms = every-more (Fine nv w points n) (Fine nv w points m) (fine-more nv w points n m h) bank (s .atoms); distinct = s .distinct }
 
+  -- a push of a fine atom
   pub push-sound : (bank : List Atom) (a : Atom) → Sound nv w points n bank → Fine nv w points n a → Sound nv w points n (push bank a)
   push-sound bank a s f = record {
     atoms =
@@ -124,6 +139,7 @@ module _ (nv w : ℕ) (points : List Point) (n : ℕ) where
     distinct = push-distinct bank a (s .distinct);
   }
 
+  -- a list of formulas that fit: the stock, or seeds on any sound bank
   pub pushAll-sound : (bank : List Atom) (fs : List (List Token)) → Every (Fits nv n) fs → Sound nv w points n bank → Sound nv w points n (pushAll w points bank fs)
   unfolding pushAll
   pushAll-sound bank [] e s = s
@@ -132,6 +148,7 @@ module _ (nv w : ℕ) (points : List Point) (n : ℕ) where
 
 -- ---- turns: the slots whose turn comes hold formulas of size at most n, which they keep, and what is added is one larger
 module _ (nv w : ℕ) (points : List Point) (n : ℕ) (few : n ≤ 63) (unaries : List Token) (un : Every Unary unaries) where
+  -- one turn
   pub turn-sound : (bank : List Atom) (k : ℕ) → Sound nv w points (n + 1) bank → k < length bank → getD bank k noAtom .cost .size ≤ n
       → Sound nv w points (n + 1) (turn w points unaries bank k)
   unfolding turn
@@ -141,6 +158,7 @@ module _ (nv w : ℕ) (points : List Point) (n : ℕ) (few : n ≤ 63) (unaries 
       pushAll-sound nv w points (n + 1) bank (map (λ (u : Token). a .form ++ (u ∷ [])) unaries)
       (every-map Unary (Fits nv (n + 1)) (λ (u : Token). a .form ++ (u ∷ [])) (λ u h. fits-unary nv n u (a .form) few h f) unaries un) s
 
+  -- the turns of m slots from slot k on
   pub turns-sound : (bank : List Atom) (k m : ℕ) → Sound nv w points (n + 1) bank → k + m ≤ length bank
       → ((j : ℕ) → k ≤ j → j < k + m → getD bank j noAtom .cost .size ≤ n)
       → Sound nv w points (n + 1) (turns w points unaries bank k m)
@@ -177,6 +195,7 @@ module _ (nv w : ℕ) (points : List Point) (n : ℕ) (few : n ≤ 63) (formulas
         size = omega (arith, g .sizes k l, sound-at nv w points n base base-sound k l .size);
       }
 
+  -- the whole build
   pub built-sound : (seeds : List ℕ) → Sound nv w points (n + 1) (built w points formulas unaries seeds)
   unfolding built
   built-sound seeds =

@@ -9,7 +9,7 @@ use lib.ListN.{length, length-append}
 use Rattle.simd.specs.declared.Gate.{Gate}
 use Rattle.simd.specs.declared.Gate.the-variants.{And, Or, Xor, Add, Mul}
 use Rattle.expr.specs.declared.Token.{Token}
-use Rattle.expr.specs.declared.Token.the-variants.{Constant, Variable, Binary, Neg}
+use Rattle.expr.specs.declared.Token.the-variants.{Constant, Variable, Binary, Not, Neg}
 use Rattle.expr.specs.Formula.{isFormula, step, run, only, whole, orElse}
 use Rattle.expr.specs.Cost.{isNonlinear, costAlg, infoOf, costOf}
 use Rattle.expr.proofs.Formulas.{constant-passes, variable-passes, not-passes, neg-passes, gate-passes}
@@ -18,39 +18,33 @@ use Rattle.atoms.proofs.Lists.{Every, every-append, every-more, every-f
 use Rattle.atoms.proofs.Soundness.{Fits}
 
 -- ---- each formula
+-- what holds of every formula of the stock
 pub record Stocked (nv : ℕ) (ts : List Token) : Type 0 where
   pub formula : isFormula nv ts ≡ true
   pub size : costOf ts .size ≤ 5
   pub tokens : length ts ≤ 4
 
-below : (i n nv : ℕ) → i + n ≤ nv → Every (λ (j : ℕ). j < nv) (countUp i n)
-unfolding countUp
-below i zero nv h = tt
-below i (suc n) nv h = (omega arith, below (suc i) n nv (omega arith))
-
-stocked-constants : (nv w : ℕ) → Every (Stocked nv) (constants w)
-unfolding constants infoOf whole run step only orElse costAlg
-stocked-constants nv w = (one 0, (one 1, (one 2, (one (2 ^ w - 1), tt))))
-  where
-    one : (v : ℕ) → Stocked nv (Constant v ∷ [])
-    one v = record { formula = constant-passes nv v; size = omega arith; tokens = omega arith }
+-- a constant
+pub stocked-constant : (nv v : ℕ) → Stocked nv (Constant v ∷ [])
+unfolding infoOf whole run step only orElse costAlg
+stocked-constant nv v = record { formula = constant-passes nv v; size = omega arith; tokens = omega arith }
 
 module _ (nv i : ℕ) (h : i < nv) where
   var : isFormula nv (Variable i ∷ []) ≡ true
   var = variable-passes nv i h
 
-  pub stocked-variable : Every (Stocked nv) (ofVariable i)
-  unfolding ofVariable infoOf whole run step only orElse costAlg
-  stocked-variable = (
-    record { formula = var; size = omega arith; tokens = omega arith },
-    (
-      record { formula = neg-passes nv (Variable i ∷ []) var (omega arith); size = omega arith; tokens = omega arith },
-      (
-        record { formula = not-passes nv (Variable i ∷ []) var (omega arith); size = omega arith; tokens = omega arith },
-        tt,
-      ),
-    ),
-  )
+  -- a variable, its Neg and its Not
+  pub stocked-variable : Stocked nv (Variable i ∷ [])
+  unfolding infoOf whole run step only orElse costAlg
+  stocked-variable = record { formula = var; size = omega arith; tokens = omega arith }
+
+  pub stocked-neg : Stocked nv (Variable i ∷ (Neg ∷ []))
+  unfolding infoOf whole run step only orElse costAlg
+  stocked-neg = record { formula = neg-passes nv (Variable i ∷ []) var (omega arith); size = omega arith; tokens = omega arith }
+
+  pub stocked-not : Stocked nv (Variable i ∷ (Not ∷ []))
+  unfolding infoOf whole run step only orElse costAlg
+  stocked-not = record { formula = not-passes nv (Variable i ∷ []) var (omega arith); size = omega arith; tokens = omega arith }
 
   module _ (j : ℕ) (l : j < nv) where
     size-gate : (g : Gate) → costOf (Variable i ∷ (Variable j ∷ (Binary g ∷ []))) .size ≤ 5
@@ -61,27 +55,44 @@ module _ (nv i : ℕ) (h : i < nv) where
     size-gate Add = omega arith
     size-gate Mul = omega arith
 
+    -- two variables under a gate
     pub stocked-gate : (g : Gate) → Stocked nv (Variable i ∷ (Variable j ∷ (Binary g ∷ [])))
     stocked-gate g = record { formula = gate-passes nv (Variable i ∷ []) var (Variable j ∷ []) (variable-passes nv j l) g (omega arith); size = size-gate g; tokens = omega arith }
 
-    stocked-gates : Every (Stocked nv) (gatesOf i j)
+    -- vi + Neg vj
+    pub stocked-difference : Stocked nv (Variable i ∷ (Variable j ∷ (Neg ∷ (Binary Add ∷ []))))
+    unfolding infoOf whole run step only orElse costAlg isNonlinear
+    stocked-difference = record {
+      formula = gate-passes nv (Variable i ∷ []) var (Variable j ∷ (Neg ∷ [])) (neg-passes nv (Variable j ∷ []) (variable-passes nv j l) (omega arith)) Add (omega arith);
+      size = omega arith;
+      tokens = omega arith;
+    }
+
+    gates-stocked : Every (Stocked nv) (gatesOf i j)
     unfolding gatesOf
-    stocked-gates = (stocked-gate And, (stocked-gate Or, (stocked-gate Xor, (stocked-gate Add, (stocked-gate Mul, tt)))))
+    gates-stocked = (stocked-gate And, (stocked-gate Or, (stocked-gate Xor, (stocked-gate Add, (stocked-gate Mul, tt)))))
 
-    pub stocked-difference : Every (Stocked nv) (differenceOf i j)
-    unfolding differenceOf infoOf whole run step only orElse costAlg isNonlinear
-    stocked-difference = go (eqb i j)
+    difference-stocked : Every (Stocked nv) (differenceOf i j)
+    unfolding differenceOf
+    difference-stocked = go (eqb i j)
       where
-        one : Stocked nv (Variable i ∷ (Variable j ∷ (Neg ∷ (Binary Add ∷ []))))
-        one = record {
-          formula = gate-passes nv (Variable i ∷ []) var (Variable j ∷ (Neg ∷ [])) (neg-passes nv (Variable j ∷ []) (variable-passes nv j l) (omega arith)) Add (omega arith);
-          size = omega arith;
-          tokens = omega arith;
-        }
-
         go : (b : Bool) → Every (Stocked nv) (elim b as (λ (x : Bool). List (List Token)) [ true ↦ [] | false ↦ (Variable i ∷ (Variable j ∷ (Neg ∷ (Binary Add ∷ [])))) ∷ [] ])
         go true = tt
-        go false = (one, tt)
+        go false = (stocked-difference, tt)
+
+-- ---- the whole stock
+below : (i n nv : ℕ) → i + n ≤ nv → Every (λ (j : ℕ). j < nv) (countUp i n)
+unfolding countUp
+below i zero nv h = tt
+below i (suc n) nv h = (omega arith, below (suc i) n nv (omega arith))
+
+constants-stocked : (nv w : ℕ) → Every (Stocked nv) (constants w)
+unfolding constants
+constants-stocked nv w = (stocked-constant nv 0, (stocked-constant nv 1, (stocked-constant nv 2, (stocked-constant nv (2 ^ w - 1), tt))))
+
+variable-stocked : (nv i : ℕ) → i < nv → Every (Stocked nv) (ofVariable i)
+unfolding ofVariable
+variable-stocked nv i h = (stocked-variable nv i h, (stocked-neg nv i h, (stocked-not nv i h, tt)))
 
 module _ (nv : ℕ) where
   -- what holds of the formulas of each i and j below nv
@@ -99,17 +110,19 @@ module _ (nv : ℕ) where
       let variables : List (List Token) = flatMap ofVariable (countUp 0 nv) in
       let gates : List (List Token) = flatMap (λ (i : ℕ). flatMap (gatesOf i) (countUp i (nv - i))) (countUp 0 nv) in
       let differences : List (List Token) = flatMap (λ (i : ℕ). flatMap (differenceOf i) (countUp 0 nv)) (countUp 0 nv) in
-      every-append (Stocked nv) (constants w) (variables ++ (gates ++ differences)) (stocked-constants nv w)
+      every-append (Stocked nv) (constants w) (variables ++ (gates ++ differences)) (constants-stocked nv w)
       (every-append (Stocked nv) variables (gates ++ differences)
-      (every-flatMap (λ (i : ℕ). i < nv) (Stocked nv) ofVariable (stocked-variable nv) (countUp 0 nv) (below 0 nv nv (omega arith)))
+      (every-flatMap (λ (i : ℕ). i < nv) (Stocked nv) ofVariable (variable-stocked nv) (countUp 0 nv) (below 0 nv nv (omega arith)))
       (every-append (Stocked nv) gates differences
-      (over gatesOf (λ i. i) (λ i. nv - i) (λ i h. omega arith) (stocked-gates nv))
-      (over differenceOf (λ i. 0) (λ i. nv) (λ i h. omega arith) (stocked-difference nv))))
+      (over gatesOf (λ i. i) (λ i. nv - i) (λ i h. omega arith) (gates-stocked nv))
+      (over differenceOf (λ i. 0) (λ i. nv) (λ i h. omega arith) (difference-stocked nv))))
 
+  -- so each may be pushed where sizes are to stay at most 5
   pub stock-fits : (w : ℕ) → Every (Fits nv 5) (stock nv w)
   stock-fits w = every-more (Stocked nv) (Fits nv 5) (λ ts s. record { formula = s .formula; size = s .size }) (stock nv w) (stock-stocked w)
 
 -- ---- how many
+-- 4 constants, 3 for each variable, 5 for each i ≤ j and one for each i ≠ j: at six variables 157
 pub stock-few : (nv w : ℕ) → nv ≤ 6 → length (stock nv w) ≤ 157
 unfolding stock flatMap countUp constants ofVariable gatesOf differenceOf
 stock-few zero w h = omega arith
@@ -128,7 +141,21 @@ nonzero-few (suc n) [] = omega arith
 nonzero-few (suc n) (zero ∷ xs) = nonzero-few (suc n) xs
 nonzero-few (suc n) (suc x ∷ xs) = omega (arith, nonzero-few n xs)
 
+-- the OR and seven words, at most
 pub seeds-few : (target : List ℕ) → length (seedsOf target) ≤ 8
 unfolding seedsOf
 seeds-few target =
     omega (arith, length-append (firstNonzero 1 (orAll target ∷ [])) (firstNonzero 7 target), nonzero-few 1 (orAll target ∷ []), nonzero-few 7 target)
+
+nonzero-nonzero : (n : ℕ) (xs : List ℕ) → Every (λ (v : ℕ). 0 < v) (firstNonzero n xs)
+unfolding firstNonzero
+nonzero-nonzero zero xs = tt
+nonzero-nonzero (suc n) [] = tt
+nonzero-nonzero (suc n) (zero ∷ xs) = nonzero-nonzero (suc n) xs
+nonzero-nonzero (suc n) (suc x ∷ xs) = (omega arith, nonzero-nonzero n xs)
+
+-- zero is never seeded
+pub seeds-nonzero : (target : List ℕ) → Every (λ (v : ℕ). 0 < v) (seedsOf target)
+unfolding seedsOf
+seeds-nonzero target =
+    every-append (λ (v : ℕ). 0 < v) (firstNonzero 1 (orAll target ∷ [])) (firstNonzero 7 target) (nonzero-nonzero 1 (orAll target ∷ [])) (nonzero-nonzero 7 target)
