@@ -5,10 +5,11 @@ use mathlib.Core.List.{List, [], _∷_, _++_, append-assoc, append-nil}
 use mathlib.Core.Option.{Option, none, some}
 use Prim.Native.Nat.{ℕ, zero, suc, _+_, _-_, _*_, _≤_, _<_, _^_, max}
 use native.Mathlib.Numerals.{add-one, add-two}
-use native.Mathlib.Nat.{add-zero}
+use native.Mathlib.Nat.{add-zero, zero-add, suc-add}
 use native.Mathlib.Omega.{arith}
-use lib.ListN.{length, getD, take, drop, length-append, take-append-drop}
+use lib.ListN.{length, getD, set, take, drop, length-append, take-append-drop}
 use lib.Seq.{take-at, drop-at, getD-at}
+use Rattle.arith.proofs.Fill.{filled-more}
 use Rattle.simd.specs.declared.Gate.{Gate}
 use Rattle.expr.specs.declared.Token.{Token}
 use Rattle.expr.specs.declared.Token.the-variants.{Constant, Variable, Binary, Not, Neg, Bad}
@@ -18,22 +19,13 @@ use Rattle.expr.specs.Formula.{tokenAt, tokens, whole, orElse, leavesOne
 use Rattle.expr.specs.Cost.{leafInfo, infoUnary, infoGate, isNonlinear, costAlg, noCost, infoOf, Roomy}
 use Rattle.expr.specs.Tree.{Tree, written, fold}
 use Rattle.expr.specs.Tree.Tree.{constant, variable, inverted, negated, gated}
-use Rattle.expr.specs.Span.{arity, back, spanOf, Span}
+use Rattle.expr.specs.Span.{arity, back, Starts, spanOf, Span}
 use Rattle.expr.proofs.Tokens.{tokens-length, tokens-take}
-use Rattle.expr.proofs.Machine.{Passed, passed}
+use Rattle.expr.proofs.Machine.{arity-le, Passed, passed}
 use Rattle.expr.proofs.Trees.{whole-tree, Formed, formed, leaves-one-tree, written-pos}
 
 -- ---- going back
 module _ (ops operands : List ℕ) where
-  pub back-step : (i n : ℕ) → 0 < i → (n ≡ 0 → ⊥) → back ops operands i n ≡ back ops operands (i - 1) (n - 1 + arity (tokenAt ops operands (i - 1)))
-  unfolding back
-  back-step zero n h k = absurd (omega arith)
-  back-step (suc i) zero h k = absurd (k refl)
-  back-step (suc i) (suc n) h k =
-      let p : i ≡ suc i - 1 = omega arith in
-      let q : n ≡ suc n - 1 = omega arith in
-      rw (← p, ← q) refl
-
   pub back-none : (i : ℕ) → back ops operands i 0 ≡ i
   unfolding back
   back-none zero = refl
@@ -42,6 +34,74 @@ module _ (ops operands : List ℕ) where
   pub back-start : (n : ℕ) → back ops operands 0 n ≡ 0
   unfolding back
   back-start n = refl
+
+  -- values taken one after the other
+  back-add : (i m n : ℕ) → back ops operands i (m + n) ≡ back ops operands (back ops operands i m) n
+  unfolding back
+  back-add zero m n = refl
+  back-add (suc i) zero n = ap (back ops operands (suc i)) (zero-add n)
+  back-add (suc i) (suc m) n =
+      let k = arity (tokenAt ops operands i) in
+      let p : suc m + n ≡ suc (m + n) = suc-add m n in
+      let q : m + n + k ≡ m + k + n = omega arith in
+      ap (back ops operands (suc i)) p ∙ ap (back ops operands i) q ∙ back-add i (m + k) n
+
+  back-le : (i n : ℕ) → back ops operands i n ≤ i
+  unfolding back
+  back-le zero n = omega arith
+  back-le (suc i) zero = omega arith
+  back-le (suc i) (suc n) = omega (arith, back-le i (n + arity (tokenAt ops operands i)))
+
+  -- ---- one more start
+  module _ (starts : List ℕ) (i : ℕ) (s : Starts ops operands starts i) (taken : ℕ) (t : taken ≡ arity (tokenAt ops operands i)) where
+    step-back : (n : ℕ) → taken ≡ n → back ops operands i n ≡ back ops operands (i + 1) 1
+    unfolding back
+    step-back n e =
+        let z : 0 + arity (tokenAt ops operands i) ≡ arity (tokenAt ops operands i) = omega arith in
+        ap (back ops operands i) (sym e ∙ t ∙ sym z) ∙ ap (λ (k : ℕ). back ops operands k 1) (sym (add-one i))
+
+    pub start-leaf : taken ≡ 0 → i ≡ back ops operands (i + 1) 1
+    start-leaf e = sym (back-none i) ∙ step-back 0 e
+
+    pub start-first : i ≡ 0 → 0 ≡ back ops operands (i + 1) 1
+    start-first e = sym (back-start taken) ∙ ap (λ (k : ℕ). back ops operands k taken) (sym e) ∙ step-back taken refl
+
+    module _ (pos : (i ≡ 0 → ⊥)) where
+      pub right-is : getD starts (i - 1) 0 ≡ back ops operands i 1
+      right-is =
+          let p : suc (i - 1) ≡ i = omega arith in
+          s .each (i - 1) (omega arith) ∙ ap (λ (k : ℕ). back ops operands k 1) p
+
+      pub right-le : getD starts (i - 1) 0 ≤ i
+      right-le = subst (λ (k : ℕ). k ≤ i) (sym right-is) (back-le i 1)
+
+      pub start-unary : taken ≡ 1 → getD starts (i - 1) 0 ≡ back ops operands (i + 1) 1
+      start-unary e = right-is ∙ step-back 1 e
+
+      two-back : (taken ≡ 0 → ⊥) → (taken ≡ 1 → ⊥) → back ops operands (getD starts (i - 1) 0) 1 ≡ back ops operands (i + 1) 1
+      two-back a b =
+          let e : taken ≡ 2 = omega (arith, arity-le (tokenAt ops operands i)) in
+          ap (λ (k : ℕ). back ops operands k 1) right-is ∙ sym (back-add i 1 1) ∙ step-back 2 e
+
+      pub start-none : (taken ≡ 0 → ⊥) → (taken ≡ 1 → ⊥) → getD starts (i - 1) 0 ≡ 0 → 0 ≡ back ops operands (i + 1) 1
+      start-none a b e = sym (back-start 1) ∙ ap (λ (k : ℕ). back ops operands k 1) (sym e) ∙ two-back a b
+
+      pub start-binary : (taken ≡ 0 → ⊥) → (taken ≡ 1 → ⊥) → (getD starts (i - 1) 0 ≡ 0 → ⊥) → getD starts (getD starts (i - 1) 0 - 1) 0 ≡ back ops operands (i + 1) 1
+      start-binary a b e =
+          let r = right-le in
+          let p : suc (getD starts (i - 1) 0 - 1) ≡ getD starts (i - 1) 0 = omega arith in
+          s .each (getD starts (i - 1) 0 - 1) (omega arith) ∙ ap (λ (k : ℕ). back ops operands k 1) p ∙ two-back a b
+
+  pub starts-none : (starts : List ℕ) → Starts ops operands starts 0
+  starts-none starts = record { each = λ k h. absurd (omega arith) }
+
+  pub starts-more : (starts : List ℕ) (i v : ℕ) → i < length starts → Starts ops operands starts i → v ≡ back ops operands (i + 1) 1 → Starts ops operands (set starts i v) (i + 1)
+  starts-more starts i v h s e = record {
+    each = filled-more (λ (k : ℕ). back ops operands (suc k) 1) starts i v h (s .each) (e ∙ ap (λ (k : ℕ). back ops operands k 1) (add-one i));
+  }
+
+  pub starts-all : (starts : List ℕ) (i count : ℕ) → count ≤ i → Starts ops operands starts i → Starts ops operands starts count
+  starts-all starts i count h s = record { each = λ k l. s .each k (omega arith) }
 
 -- what passes the test is one span
 pub whole-span : (nv count : ℕ) (ops operands : List ℕ) → isFormula nv (tokens count ops operands) ≡ true → Span ops operands 0 count
@@ -330,3 +390,15 @@ module _ (ops operands : List ℕ) where
 
     pub span-bad : t ≡ Bad → ⊥
     span-bad e = bad-parts (tree-of from to s .tree) (last-of ∙ e)
+
+    -- a gate's span has three tokens or more
+    pub span-three : (g : Gate) → t ≡ Binary g → 3 ≤ to
+    span-three g e =
+        let mid = back ops operands (to - 1) 1 in
+        let two = span-gate g e mid refl in
+        omega (arith, span-pos from mid (two .left), span-pos mid (to - 1) (two .right))
+
+    pub span-mid : (starts : List ℕ) → Starts ops operands starts to → 2 ≤ to → getD starts (to - 1 - 1) 0 ≡ back ops operands (to - 1) 1
+    span-mid starts st h =
+        let p : suc (to - 1 - 1) ≡ to - 1 = omega arith in
+        st .each (to - 1 - 1) (omega arith) ∙ ap (λ (k : ℕ). back ops operands k 1) p

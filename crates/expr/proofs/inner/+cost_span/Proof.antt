@@ -2,15 +2,16 @@
 use mathlib.Core.Path.{_≡_, sym, ap, ap₂, _∙_, subst}
 use mathlib.Core.List.{List, [], _∷_}
 use mathlib.Core.Logic.{_⊎_, inl, inr}
-use Prim.Native.Nat.{ℕ, _<_, _-_}
+use Prim.Native.Nat.{ℕ, _<_, _≤_, _-_}
 use types.Run.{OneOf}
 use denote.Enum.Declared.{tagOf}
+use lib.ListN.{length, getD}
 use Rattle.expr.specs.declared.Token.{Token}
 use Rattle.expr.specs.declared.Token.the-variants.{Constant, Variable, Binary, Not, Neg, Bad}
 use Rattle.expr.specs.declared.CostInfo.{CostInfo}
 use Rattle.expr.specs.Cost.{Roomy, infoUnary, infoGate}
 use Rattle.expr.specs.Span.{arity, Span}
-use Rattle.expr.proofs.Spans.{span-pos, span-roomy, span-gate, span-unary, span-constant, span-variable, span-bad}
+use Rattle.expr.proofs.Spans.{starts-all, span-pos, span-roomy, span-gate, span-unary, span-constant, span-variable, span-bad, span-three, span-mid}
 use Rattle.expr.proofs.Token.{the-type}
 use borrow.Author.Needs.{needs}
 use native.Mathlib.Omega.{arith}
@@ -22,13 +23,12 @@ use Rattle.expr.proofs.inner.+cost_span.Lts-cost_span as cost-span-lts
 use Rattle.expr.proofs.CostInfo.leaf.Reads as leaf-reads
 use Rattle.expr.proofs.CostInfo.under_gate.Reads as under-gate-reads
 use Rattle.expr.proofs.CostInfo.under_unary.Reads as under-unary-reads
-use Rattle.expr.proofs.inner.span_start.Reads as span-start-reads
 use Rattle.expr.proofs.token_at.Reads as token-at-reads
 use Rattle.expr.proofs.inner.+cost_span.{statement}
 use Rattle.expr.proofs.inner.+cost_span.Tie.{close}
 
-abbrev μ-cost-span : Measures 2 cost-span-kinds.ps ℕ
-μ-cost-span κs a = a .1 .1 .1 .0 - a .1 .1 .0
+abbrev μ-cost-span : Measures 3 cost-span-kinds.ps ℕ
+μ-cost-span κs a = a .1 .1 .1 .1 .0 - a .1 .1 .1 .0
 
 -- a tag of 3 or 4 is that of Not or Neg
 unary-tag : (t : Token) → OneOf (3 ∷ 4 ∷ []) (tagOf the-type t) → arity t ≡ 1
@@ -44,20 +44,18 @@ unary-tag Neg h = omega arith
 unary-tag Bad (inl e) = absurd (omega arith)
 unary-tag Bad (inr e) = absurd (omega arith)
 
-abbrev cost-span-at : ℕ → In 2 cost-span-kinds.ps
-cost-span-at t = and 2 cost-span-kinds.ps (is 2 cost-span-kinds.ps μ-cost-span t) cost-span.Pre
+abbrev cost-span-at : ℕ → In 3 cost-span-kinds.ps
+cost-span-at t = and 3 cost-span-kinds.ps (is 3 cost-span-kinds.ps μ-cost-span t) cost-span.Pre
 
-abbrev cost-span-below : ℕ → In 2 cost-span-kinds.ps
+abbrev cost-span-below : ℕ → In 3 cost-span-kinds.ps
 cost-span-below t =
-    and 2 cost-span-kinds.ps (falls 2 cost-span-kinds.ps _<_ μ-cost-span t) cost-span.Pre
+    and 3 cost-span-kinds.ps (falls 3 cost-span-kinds.ps _<_ μ-cost-span t) cost-span.Pre
 
 cost-span-sub-last : (t : ℕ) → cost-span-lts.Need-sub-last (
   token-at-reads.Asked,
   token-at-reads.Learnt,
   leaf-reads.Asked,
   leaf-reads.Learnt,
-  span-start-reads.Asked,
-  span-start-reads.Learnt,
   cost-span-below t,
   cost-span.Post,
   under-gate-reads.Asked,
@@ -66,8 +64,8 @@ cost-span-sub-last : (t : ℕ) → cost-span-lts.Need-sub-last (
   under-unary-reads.Learnt,
 ) (cost-span-at t) cost-span.Post
 cost-span-sub-last t c =
-    let s = c .before .before .args in
-    let sp : Span (s .ops .now) (s .operands .now) (s .from) (s .to) = c .before .before .pre .1 in
+    let s = c .before .before .before .args in
+    let sp : Span (s .ops .now) (s .operands .now) (s .from) (s .to) = c .before .before .before .pre .1 .0 in
     let pos = span-pos (s .ops .now) (s .operands .now) (s .from) (s .to) sp in
     let most = sp .most in
     omega arith
@@ -77,8 +75,6 @@ cost-span-token-at-requires : (t : ℕ) → cost-span-lts.Need-token-at-requires
   token-at-reads.Learnt,
   leaf-reads.Asked,
   leaf-reads.Learnt,
-  span-start-reads.Asked,
-  span-start-reads.Learnt,
   cost-span-below t,
   cost-span.Post,
   under-gate-reads.Asked,
@@ -93,8 +89,6 @@ cost-span-enum-told : (t : ℕ) → cost-span-lts.Need-enum-told (
   token-at-reads.Learnt,
   leaf-reads.Asked,
   leaf-reads.Learnt,
-  span-start-reads.Asked,
-  span-start-reads.Learnt,
   cost-span-below t,
   cost-span.Post,
   under-gate-reads.Asked,
@@ -109,8 +103,6 @@ cost-span-leaf-requires : (t : ℕ) → cost-span-lts.Need-leaf-requires (
   token-at-reads.Learnt,
   leaf-reads.Asked,
   leaf-reads.Learnt,
-  span-start-reads.Asked,
-  span-start-reads.Learnt,
   cost-span-below t,
   cost-span.Post,
   under-gate-reads.Asked,
@@ -125,8 +117,6 @@ cost-span-enum-told-2 : (t : ℕ) → cost-span-lts.Need-enum-told-2 (
   token-at-reads.Learnt,
   leaf-reads.Asked,
   leaf-reads.Learnt,
-  span-start-reads.Asked,
-  span-start-reads.Learnt,
   cost-span-below t,
   cost-span.Post,
   under-gate-reads.Asked,
@@ -141,8 +131,6 @@ cost-span-leaf-requires-2 : (t : ℕ) → cost-span-lts.Need-leaf-requires-2 (
   token-at-reads.Learnt,
   leaf-reads.Asked,
   leaf-reads.Learnt,
-  span-start-reads.Asked,
-  span-start-reads.Learnt,
   cost-span-below t,
   cost-span.Post,
   under-gate-reads.Asked,
@@ -157,8 +145,6 @@ cost-span-enum-known-g : (t : ℕ) → cost-span-lts.Need-enum-known-g (
   token-at-reads.Learnt,
   leaf-reads.Asked,
   leaf-reads.Learnt,
-  span-start-reads.Asked,
-  span-start-reads.Learnt,
   cost-span-below t,
   cost-span.Post,
   under-gate-reads.Asked,
@@ -168,13 +154,11 @@ cost-span-enum-known-g : (t : ℕ) → cost-span-lts.Need-enum-known-g (
 ) (cost-span-at t) cost-span.Post
 cost-span-enum-known-g t c = search needs
 
-cost-span-span-start-requires : (t : ℕ) → cost-span-lts.Need-span-start-requires (
+cost-span-sub-mid : (t : ℕ) → cost-span-lts.Need-sub-mid (
   token-at-reads.Asked,
   token-at-reads.Learnt,
   leaf-reads.Asked,
   leaf-reads.Learnt,
-  span-start-reads.Asked,
-  span-start-reads.Learnt,
   cost-span-below t,
   cost-span.Post,
   under-gate-reads.Asked,
@@ -182,11 +166,53 @@ cost-span-span-start-requires : (t : ℕ) → cost-span-lts.Need-span-start-requ
   under-unary-reads.Asked,
   under-unary-reads.Learnt,
 ) (cost-span-at t) cost-span.Post
-cost-span-span-start-requires t c κs =
-    let s = c .before .before .before .before .before .before .args in
-    let sp : Span (s .ops .now) (s .operands .now) (s .from) (s .to) = c .before .before .before .before .before .before .pre .1 in
+cost-span-sub-mid t c =
+    let s = c .before .before .before .before .before .before .before .args in
+    let sp : Span (s .ops .now) (s .operands .now) (s .from) (s .to) = c .before .before .before .before .before .before .before .pre .1 .0 in
     let pos = span-pos (s .ops .now) (s .operands .now) (s .from) (s .to) sp in
     let most = sp .most in
+    let n = span-three (s .ops .now) (s .operands .now) (s .from) (s .to) sp (c .before .before .before .token-at .result) (sym (c .before .before .before .token-at .ensures)) _ (c .before .g .given .1) in
+    omega arith
+
+cost-span-mul-mid : (t : ℕ) → cost-span-lts.Need-mul-mid (
+  token-at-reads.Asked,
+  token-at-reads.Learnt,
+  leaf-reads.Asked,
+  leaf-reads.Learnt,
+  cost-span-below t,
+  cost-span.Post,
+  under-gate-reads.Asked,
+  under-gate-reads.Learnt,
+  under-unary-reads.Asked,
+  under-unary-reads.Learnt,
+) (cost-span-at t) cost-span.Post
+cost-span-mul-mid t c =
+    let s = c .before .before .before .before .before .before .before .args in
+    let sp : Span (s .ops .now) (s .operands .now) (s .from) (s .to) = c .before .before .before .before .before .before .before .pre .1 .0 in
+    let pos = span-pos (s .ops .now) (s .operands .now) (s .from) (s .to) sp in
+    let most = sp .most in
+    let n = span-three (s .ops .now) (s .operands .now) (s .from) (s .to) sp (c .before .before .before .token-at .result) (sym (c .before .before .before .token-at .ensures)) _ (c .before .g .given .1) in
+    record { fits = omega arith }
+
+cost-span-shared-slice-read-mid : (t : ℕ) → cost-span-lts.Need-shared-slice-read-mid (
+  token-at-reads.Asked,
+  token-at-reads.Learnt,
+  leaf-reads.Asked,
+  leaf-reads.Learnt,
+  cost-span-below t,
+  cost-span.Post,
+  under-gate-reads.Asked,
+  under-gate-reads.Learnt,
+  under-unary-reads.Asked,
+  under-unary-reads.Learnt,
+) (cost-span-at t) cost-span.Post
+cost-span-shared-slice-read-mid t c =
+    let s = c .before .before .before .before .before .before .before .before .args in
+    let sp : Span (s .ops .now) (s .operands .now) (s .from) (s .to) = c .before .before .before .before .before .before .before .before .pre .1 .0 in
+    let pos = span-pos (s .ops .now) (s .operands .now) (s .from) (s .to) sp in
+    let most = sp .most in
+    let n = span-three (s .ops .now) (s .operands .now) (s .from) (s .to) sp (c .before .before .before .before .token-at .result) (sym (c .before .before .before .before .token-at .ensures)) _ (c .before .before .g .given .1) in
+    let long : s .to ≤ length (s .starts .now) = c .before .before .before .before .before .before .before .before .pre .1 .1 .0 in
     omega arith
 
 cost-span-cost-span-requires : (t : ℕ) → cost-span-lts.Need-cost-span-requires (
@@ -194,8 +220,6 @@ cost-span-cost-span-requires : (t : ℕ) → cost-span-lts.Need-cost-span-requir
   token-at-reads.Learnt,
   leaf-reads.Asked,
   leaf-reads.Learnt,
-  span-start-reads.Asked,
-  span-start-reads.Learnt,
   cost-span-below t,
   cost-span.Post,
   under-gate-reads.Asked,
@@ -204,23 +228,24 @@ cost-span-cost-span-requires : (t : ℕ) → cost-span-lts.Need-cost-span-requir
   under-unary-reads.Learnt,
 ) (cost-span-at t) cost-span.Post
 cost-span-cost-span-requires t c κs =
-    let s = c .before .before .before .before .before .before .before .args in
-    let sp : Span (s .ops .now) (s .operands .now) (s .from) (s .to) = c .before .before .before .before .before .before .before .pre .1 in
+    let s = c .before .before .before .before .before .before .before .before .args in
+    let sp : Span (s .ops .now) (s .operands .now) (s .from) (s .to) = c .before .before .before .before .before .before .before .before .pre .1 .0 in
     let pos = span-pos (s .ops .now) (s .operands .now) (s .from) (s .to) sp in
     let most = sp .most in
-    let two = span-gate (s .ops .now) (s .operands .now) (s .from) (s .to) sp (c .before .before .before .before .token-at .result) (sym (c .before .before .before .before .token-at .ensures)) _ (c .before .before .g .given .1) (c .span-start .result) (c .span-start .ensures) in
-    let l = span-pos (s .ops .now) (s .operands .now) (s .from) (c .span-start .result) (two .left) in
-    let r = span-pos (s .ops .now) (s .operands .now) (c .span-start .result) (s .to - 1) (two .right) in
-    let is : s .to - s .from ≡ t = c .before .before .before .before .before .before .before .pre .0 in
-    (omega arith, two .left)
+    let n = span-three (s .ops .now) (s .operands .now) (s .from) (s .to) sp (c .before .before .before .before .token-at .result) (sym (c .before .before .before .before .token-at .ensures)) _ (c .before .before .g .given .1) in
+    let mid = getD (s .starts .now) (s .to - 1 - 1) 0 in
+    let two = span-gate (s .ops .now) (s .operands .now) (s .from) (s .to) sp (c .before .before .before .before .token-at .result) (sym (c .before .before .before .before .token-at .ensures)) _ (c .before .before .g .given .1) mid (span-mid (s .ops .now) (s .operands .now) (s .from) (s .to) sp (c .before .before .before .before .token-at .result) (sym (c .before .before .before .before .token-at .ensures)) (s .starts .now) (c .before .before .before .before .before .before .before .before .pre .1 .1 .1) (omega arith)) in
+    let l = span-pos (s .ops .now) (s .operands .now) (s .from) mid (two .left) in
+    let r = span-pos (s .ops .now) (s .operands .now) mid (s .to - 1) (two .right) in
+    let is : s .to - s .from ≡ t = c .before .before .before .before .before .before .before .before .pre .0 in
+    let long : s .to ≤ length (s .starts .now) = c .before .before .before .before .before .before .before .before .pre .1 .1 .0 in
+    (omega arith, (two .left, (omega arith, starts-all (s .ops .now) (s .operands .now) (s .starts .now) (s .to) mid (omega arith) (c .before .before .before .before .before .before .before .before .pre .1 .1 .1))))
 
 cost-span-cost-span-requires-2 : (t : ℕ) → cost-span-lts.Need-cost-span-requires-2 (
   token-at-reads.Asked,
   token-at-reads.Learnt,
   leaf-reads.Asked,
   leaf-reads.Learnt,
-  span-start-reads.Asked,
-  span-start-reads.Learnt,
   cost-span-below t,
   cost-span.Post,
   under-gate-reads.Asked,
@@ -229,23 +254,24 @@ cost-span-cost-span-requires-2 : (t : ℕ) → cost-span-lts.Need-cost-span-requ
   under-unary-reads.Learnt,
 ) (cost-span-at t) cost-span.Post
 cost-span-cost-span-requires-2 t c κs =
-    let s = c .before .before .before .before .before .before .before .before .args in
-    let sp : Span (s .ops .now) (s .operands .now) (s .from) (s .to) = c .before .before .before .before .before .before .before .before .pre .1 in
+    let s = c .before .before .before .before .before .before .before .before .before .args in
+    let sp : Span (s .ops .now) (s .operands .now) (s .from) (s .to) = c .before .before .before .before .before .before .before .before .before .pre .1 .0 in
     let pos = span-pos (s .ops .now) (s .operands .now) (s .from) (s .to) sp in
     let most = sp .most in
-    let two = span-gate (s .ops .now) (s .operands .now) (s .from) (s .to) sp (c .before .before .before .before .before .token-at .result) (sym (c .before .before .before .before .before .token-at .ensures)) _ (c .before .before .before .g .given .1) (c .before .span-start .result) (c .before .span-start .ensures) in
-    let l = span-pos (s .ops .now) (s .operands .now) (s .from) (c .before .span-start .result) (two .left) in
-    let r = span-pos (s .ops .now) (s .operands .now) (c .before .span-start .result) (s .to - 1) (two .right) in
-    let is : s .to - s .from ≡ t = c .before .before .before .before .before .before .before .before .pre .0 in
-    (omega arith, two .right)
+    let n = span-three (s .ops .now) (s .operands .now) (s .from) (s .to) sp (c .before .before .before .before .before .token-at .result) (sym (c .before .before .before .before .before .token-at .ensures)) _ (c .before .before .before .g .given .1) in
+    let mid = getD (s .starts .now) (s .to - 1 - 1) 0 in
+    let two = span-gate (s .ops .now) (s .operands .now) (s .from) (s .to) sp (c .before .before .before .before .before .token-at .result) (sym (c .before .before .before .before .before .token-at .ensures)) _ (c .before .before .before .g .given .1) mid (span-mid (s .ops .now) (s .operands .now) (s .from) (s .to) sp (c .before .before .before .before .before .token-at .result) (sym (c .before .before .before .before .before .token-at .ensures)) (s .starts .now) (c .before .before .before .before .before .before .before .before .before .pre .1 .1 .1) (omega arith)) in
+    let l = span-pos (s .ops .now) (s .operands .now) (s .from) mid (two .left) in
+    let r = span-pos (s .ops .now) (s .operands .now) mid (s .to - 1) (two .right) in
+    let is : s .to - s .from ≡ t = c .before .before .before .before .before .before .before .before .before .pre .0 in
+    let long : s .to ≤ length (s .starts .now) = c .before .before .before .before .before .before .before .before .before .pre .1 .1 .0 in
+    (omega arith, (two .right, (omega arith, starts-all (s .ops .now) (s .operands .now) (s .starts .now) (s .to) (s .to - 1) (omega arith) (c .before .before .before .before .before .before .before .before .before .pre .1 .1 .1))))
 
 cost-span-under-gate-requires : (t : ℕ) → cost-span-lts.Need-under-gate-requires (
   token-at-reads.Asked,
   token-at-reads.Learnt,
   leaf-reads.Asked,
   leaf-reads.Learnt,
-  span-start-reads.Asked,
-  span-start-reads.Learnt,
   cost-span-below t,
   cost-span.Post,
   under-gate-reads.Asked,
@@ -254,15 +280,17 @@ cost-span-under-gate-requires : (t : ℕ) → cost-span-lts.Need-under-gate-requ
   under-unary-reads.Learnt,
 ) (cost-span-at t) cost-span.Post
 cost-span-under-gate-requires t c κs =
-    let s = c .before .before .before .before .before .before .before .before .before .args in
-    let sp : Span (s .ops .now) (s .operands .now) (s .from) (s .to) = c .before .before .before .before .before .before .before .before .before .pre .1 in
+    let s = c .before .before .before .before .before .before .before .before .before .before .args in
+    let sp : Span (s .ops .now) (s .operands .now) (s .from) (s .to) = c .before .before .before .before .before .before .before .before .before .before .pre .1 .0 in
     let pos = span-pos (s .ops .now) (s .operands .now) (s .from) (s .to) sp in
     let most = sp .most in
-    let two = span-gate (s .ops .now) (s .operands .now) (s .from) (s .to) sp (c .before .before .before .before .before .before .token-at .result) (sym (c .before .before .before .before .before .before .token-at .ensures)) _ (c .before .before .before .before .g .given .1) (c .before .before .span-start .result) (c .before .before .span-start .ensures) in
-    let l = span-pos (s .ops .now) (s .operands .now) (s .from) (c .before .before .span-start .result) (two .left) in
-    let r = span-pos (s .ops .now) (s .operands .now) (c .before .before .span-start .result) (s .to - 1) (two .right) in (
-      subst (λ (x : CostInfo). Roomy (x .cost)) (sym (c .before .cost-span .ensures)) (span-roomy (s .ops .now) (s .operands .now) (s .from) (c .before .before .span-start .result) (two .left)),
-      subst (λ (x : CostInfo). Roomy (x .cost)) (sym (c .cost-span2 .ensures)) (span-roomy (s .ops .now) (s .operands .now) (c .before .before .span-start .result) (s .to - 1) (two .right)),
+    let n = span-three (s .ops .now) (s .operands .now) (s .from) (s .to) sp (c .before .before .before .before .before .before .token-at .result) (sym (c .before .before .before .before .before .before .token-at .ensures)) _ (c .before .before .before .before .g .given .1) in
+    let mid = getD (s .starts .now) (s .to - 1 - 1) 0 in
+    let two = span-gate (s .ops .now) (s .operands .now) (s .from) (s .to) sp (c .before .before .before .before .before .before .token-at .result) (sym (c .before .before .before .before .before .before .token-at .ensures)) _ (c .before .before .before .before .g .given .1) mid (span-mid (s .ops .now) (s .operands .now) (s .from) (s .to) sp (c .before .before .before .before .before .before .token-at .result) (sym (c .before .before .before .before .before .before .token-at .ensures)) (s .starts .now) (c .before .before .before .before .before .before .before .before .before .before .pre .1 .1 .1) (omega arith)) in
+    let l = span-pos (s .ops .now) (s .operands .now) (s .from) mid (two .left) in
+    let r = span-pos (s .ops .now) (s .operands .now) mid (s .to - 1) (two .right) in (
+      subst (λ (x : CostInfo). Roomy (x .cost)) (sym (c .before .cost-span .ensures)) (span-roomy (s .ops .now) (s .operands .now) (s .from) mid (two .left)),
+      subst (λ (x : CostInfo). Roomy (x .cost)) (sym (c .cost-span2 .ensures)) (span-roomy (s .ops .now) (s .operands .now) mid (s .to - 1) (two .right)),
     )
 
 cost-span-cost-span-requires-3 : (t : ℕ) → cost-span-lts.Need-cost-span-requires-3 (
@@ -270,8 +298,6 @@ cost-span-cost-span-requires-3 : (t : ℕ) → cost-span-lts.Need-cost-span-requ
   token-at-reads.Learnt,
   leaf-reads.Asked,
   leaf-reads.Learnt,
-  span-start-reads.Asked,
-  span-start-reads.Learnt,
   cost-span-below t,
   cost-span.Post,
   under-gate-reads.Asked,
@@ -280,21 +306,20 @@ cost-span-cost-span-requires-3 : (t : ℕ) → cost-span-lts.Need-cost-span-requ
   under-unary-reads.Learnt,
 ) (cost-span-at t) cost-span.Post
 cost-span-cost-span-requires-3 t c κs =
-    let s = c .before .before .before .before .args in
-    let sp : Span (s .ops .now) (s .operands .now) (s .from) (s .to) = c .before .before .before .before .pre .1 in
+    let s = c .before .before .before .before .before .args in
+    let sp : Span (s .ops .now) (s .operands .now) (s .from) (s .to) = c .before .before .before .before .before .pre .1 .0 in
     let pos = span-pos (s .ops .now) (s .operands .now) (s .from) (s .to) sp in
     let most = sp .most in
     let one = span-unary (s .ops .now) (s .operands .now) (s .from) (s .to) sp (c .before .token-at .result) (sym (c .before .token-at .ensures)) (unary-tag (c .before .token-at .result) (c .match .keys4)) in
-    let is : s .to - s .from ≡ t = c .before .before .before .before .pre .0 in
-    (omega arith, one .operand)
+    let is : s .to - s .from ≡ t = c .before .before .before .before .before .pre .0 in
+    let long : s .to ≤ length (s .starts .now) = c .before .before .before .before .before .pre .1 .1 .0 in
+    (omega arith, (one .operand, (omega arith, starts-all (s .ops .now) (s .operands .now) (s .starts .now) (s .to) (s .to - 1) (omega arith) (c .before .before .before .before .before .pre .1 .1 .1))))
 
 cost-span-under-unary-requires : (t : ℕ) → cost-span-lts.Need-under-unary-requires (
   token-at-reads.Asked,
   token-at-reads.Learnt,
   leaf-reads.Asked,
   leaf-reads.Learnt,
-  span-start-reads.Asked,
-  span-start-reads.Learnt,
   cost-span-below t,
   cost-span.Post,
   under-gate-reads.Asked,
@@ -303,8 +328,8 @@ cost-span-under-unary-requires : (t : ℕ) → cost-span-lts.Need-under-unary-re
   under-unary-reads.Learnt,
 ) (cost-span-at t) cost-span.Post
 cost-span-under-unary-requires t c κs =
-    let s = c .before .before .before .before .before .args in
-    let sp : Span (s .ops .now) (s .operands .now) (s .from) (s .to) = c .before .before .before .before .before .pre .1 in
+    let s = c .before .before .before .before .before .before .args in
+    let sp : Span (s .ops .now) (s .operands .now) (s .from) (s .to) = c .before .before .before .before .before .before .pre .1 .0 in
     let pos = span-pos (s .ops .now) (s .operands .now) (s .from) (s .to) sp in
     let most = sp .most in
     let one = span-unary (s .ops .now) (s .operands .now) (s .from) (s .to) sp (c .before .before .token-at .result) (sym (c .before .before .token-at .ensures)) (unary-tag (c .before .before .token-at .result) (c .before .match .keys4)) in
@@ -315,8 +340,6 @@ cost-span-enum-told-3 : (t : ℕ) → cost-span-lts.Need-enum-told-3 (
   token-at-reads.Learnt,
   leaf-reads.Asked,
   leaf-reads.Learnt,
-  span-start-reads.Asked,
-  span-start-reads.Learnt,
   cost-span-below t,
   cost-span.Post,
   under-gate-reads.Asked,
@@ -331,8 +354,6 @@ cost-span-leaf-requires-3 : (t : ℕ) → cost-span-lts.Need-leaf-requires-3 (
   token-at-reads.Learnt,
   leaf-reads.Asked,
   leaf-reads.Learnt,
-  span-start-reads.Asked,
-  span-start-reads.Learnt,
   cost-span-below t,
   cost-span.Post,
   under-gate-reads.Asked,
@@ -347,8 +368,6 @@ cost-span-returns : (t : ℕ) → cost-span-lts.Need-returns (
   token-at-reads.Learnt,
   leaf-reads.Asked,
   leaf-reads.Learnt,
-  span-start-reads.Asked,
-  span-start-reads.Learnt,
   cost-span-below t,
   cost-span.Post,
   under-gate-reads.Asked,
@@ -357,8 +376,8 @@ cost-span-returns : (t : ℕ) → cost-span-lts.Need-returns (
   under-unary-reads.Learnt,
 ) (cost-span-at t) cost-span.Post
 cost-span-returns t c =
-    let s = c .before .before .before .before .before .before .args in
-    let sp : Span (s .ops .now) (s .operands .now) (s .from) (s .to) = c .before .before .before .before .before .before .pre .1 in
+    let s = c .before .before .before .before .before .before .before .args in
+    let sp : Span (s .ops .now) (s .operands .now) (s .from) (s .to) = c .before .before .before .before .before .before .before .pre .1 .0 in
     let pos = span-pos (s .ops .now) (s .operands .now) (s .from) (s .to) sp in
     let most = sp .most in
     c .leaf .ensures ∙ span-constant (s .ops .now) (s .operands .now) (s .from) (s .to) sp (c .before .before .before .token-at .result) (sym (c .before .before .before .token-at .ensures)) _ (c .before .enum-told .given .1)
@@ -368,8 +387,6 @@ cost-span-returns-2 : (t : ℕ) → cost-span-lts.Need-returns-2 (
   token-at-reads.Learnt,
   leaf-reads.Asked,
   leaf-reads.Learnt,
-  span-start-reads.Asked,
-  span-start-reads.Learnt,
   cost-span-below t,
   cost-span.Post,
   under-gate-reads.Asked,
@@ -378,8 +395,8 @@ cost-span-returns-2 : (t : ℕ) → cost-span-lts.Need-returns-2 (
   under-unary-reads.Learnt,
 ) (cost-span-at t) cost-span.Post
 cost-span-returns-2 t c =
-    let s = c .before .before .before .before .before .before .args in
-    let sp : Span (s .ops .now) (s .operands .now) (s .from) (s .to) = c .before .before .before .before .before .before .pre .1 in
+    let s = c .before .before .before .before .before .before .before .args in
+    let sp : Span (s .ops .now) (s .operands .now) (s .from) (s .to) = c .before .before .before .before .before .before .before .pre .1 .0 in
     let pos = span-pos (s .ops .now) (s .operands .now) (s .from) (s .to) sp in
     let most = sp .most in
     c .leaf2 .ensures ∙ span-variable (s .ops .now) (s .operands .now) (s .from) (s .to) sp (c .before .before .before .token-at .result) (sym (c .before .before .before .token-at .ensures)) _ (c .before .enum-told2 .given .1)
@@ -389,8 +406,6 @@ cost-span-returns-3 : (t : ℕ) → cost-span-lts.Need-returns-3 (
   token-at-reads.Learnt,
   leaf-reads.Asked,
   leaf-reads.Learnt,
-  span-start-reads.Asked,
-  span-start-reads.Learnt,
   cost-span-below t,
   cost-span.Post,
   under-gate-reads.Asked,
@@ -399,13 +414,15 @@ cost-span-returns-3 : (t : ℕ) → cost-span-lts.Need-returns-3 (
   under-unary-reads.Learnt,
 ) (cost-span-at t) cost-span.Post
 cost-span-returns-3 t c =
-    let s = c .before .before .before .before .before .before .before .before .before .before .args in
-    let sp : Span (s .ops .now) (s .operands .now) (s .from) (s .to) = c .before .before .before .before .before .before .before .before .before .before .pre .1 in
+    let s = c .before .before .before .before .before .before .before .before .before .before .before .args in
+    let sp : Span (s .ops .now) (s .operands .now) (s .from) (s .to) = c .before .before .before .before .before .before .before .before .before .before .before .pre .1 .0 in
     let pos = span-pos (s .ops .now) (s .operands .now) (s .from) (s .to) sp in
     let most = sp .most in
-    let two = span-gate (s .ops .now) (s .operands .now) (s .from) (s .to) sp (c .before .before .before .before .before .before .before .token-at .result) (sym (c .before .before .before .before .before .before .before .token-at .ensures)) _ (c .before .before .before .before .before .g .given .1) (c .before .before .before .span-start .result) (c .before .before .before .span-start .ensures) in
-    let l = span-pos (s .ops .now) (s .operands .now) (s .from) (c .before .before .before .span-start .result) (two .left) in
-    let r = span-pos (s .ops .now) (s .operands .now) (c .before .before .before .span-start .result) (s .to - 1) (two .right) in
+    let n = span-three (s .ops .now) (s .operands .now) (s .from) (s .to) sp (c .before .before .before .before .before .before .before .token-at .result) (sym (c .before .before .before .before .before .before .before .token-at .ensures)) _ (c .before .before .before .before .before .g .given .1) in
+    let mid = getD (s .starts .now) (s .to - 1 - 1) 0 in
+    let two = span-gate (s .ops .now) (s .operands .now) (s .from) (s .to) sp (c .before .before .before .before .before .before .before .token-at .result) (sym (c .before .before .before .before .before .before .before .token-at .ensures)) _ (c .before .before .before .before .before .g .given .1) mid (span-mid (s .ops .now) (s .operands .now) (s .from) (s .to) sp (c .before .before .before .before .before .before .before .token-at .result) (sym (c .before .before .before .before .before .before .before .token-at .ensures)) (s .starts .now) (c .before .before .before .before .before .before .before .before .before .before .before .pre .1 .1 .1) (omega arith)) in
+    let l = span-pos (s .ops .now) (s .operands .now) (s .from) mid (two .left) in
+    let r = span-pos (s .ops .now) (s .operands .now) mid (s .to - 1) (two .right) in
     c .under-gate .ensures ∙ ap₂ (λ (x y : CostInfo). infoGate (c .before .before .before .before .before .g .given .0 .0) x y) (c .before .before .cost-span .ensures) (c .before .cost-span2 .ensures) ∙ two .cost
 
 cost-span-returns-4 : (t : ℕ) → cost-span-lts.Need-returns-4 (
@@ -413,8 +430,6 @@ cost-span-returns-4 : (t : ℕ) → cost-span-lts.Need-returns-4 (
   token-at-reads.Learnt,
   leaf-reads.Asked,
   leaf-reads.Learnt,
-  span-start-reads.Asked,
-  span-start-reads.Learnt,
   cost-span-below t,
   cost-span.Post,
   under-gate-reads.Asked,
@@ -423,8 +438,8 @@ cost-span-returns-4 : (t : ℕ) → cost-span-lts.Need-returns-4 (
   under-unary-reads.Learnt,
 ) (cost-span-at t) cost-span.Post
 cost-span-returns-4 t c =
-    let s = c .before .before .before .before .before .before .args in
-    let sp : Span (s .ops .now) (s .operands .now) (s .from) (s .to) = c .before .before .before .before .before .before .pre .1 in
+    let s = c .before .before .before .before .before .before .before .args in
+    let sp : Span (s .ops .now) (s .operands .now) (s .from) (s .to) = c .before .before .before .before .before .before .before .pre .1 .0 in
     let pos = span-pos (s .ops .now) (s .operands .now) (s .from) (s .to) sp in
     let most = sp .most in
     let one = span-unary (s .ops .now) (s .operands .now) (s .from) (s .to) sp (c .before .before .before .token-at .result) (sym (c .before .before .before .token-at .ensures)) (unary-tag (c .before .before .before .token-at .result) (c .before .before .match .keys4)) in
@@ -435,8 +450,6 @@ cost-span-returns-5 : (t : ℕ) → cost-span-lts.Need-returns-5 (
   token-at-reads.Learnt,
   leaf-reads.Asked,
   leaf-reads.Learnt,
-  span-start-reads.Asked,
-  span-start-reads.Learnt,
   cost-span-below t,
   cost-span.Post,
   under-gate-reads.Asked,
@@ -445,8 +458,8 @@ cost-span-returns-5 : (t : ℕ) → cost-span-lts.Need-returns-5 (
   under-unary-reads.Learnt,
 ) (cost-span-at t) cost-span.Post
 cost-span-returns-5 t c =
-    let s = c .before .before .before .before .before .before .args in
-    let sp : Span (s .ops .now) (s .operands .now) (s .from) (s .to) = c .before .before .before .before .before .before .pre .1 in
+    let s = c .before .before .before .before .before .before .before .args in
+    let sp : Span (s .ops .now) (s .operands .now) (s .from) (s .to) = c .before .before .before .before .before .before .before .pre .1 .0 in
     let pos = span-pos (s .ops .now) (s .operands .now) (s .from) (s .to) sp in
     let most = sp .most in
     absurd (span-bad (s .ops .now) (s .operands .now) (s .from) (s .to) sp (c .before .before .before .token-at .result) (sym (c .before .before .before .token-at .ensures)) (c .before .enum-told3 .given .1))
@@ -457,8 +470,6 @@ pub +cost-span-spec : {M : Type 1} → statement M
   token-at-reads.Learnt,
   leaf-reads.Asked,
   leaf-reads.Learnt,
-  span-start-reads.Asked,
-  span-start-reads.Learnt,
   cost-span-below t,
   cost-span.Post,
   under-gate-reads.Asked,
@@ -475,7 +486,9 @@ pub +cost-span-spec : {M : Type 1} → statement M
     (cost-span-enum-told-2 t)
     (cost-span-leaf-requires-2 t)
     (cost-span-enum-known-g t)
-    (cost-span-span-start-requires t)
+    (cost-span-sub-mid t)
+    (cost-span-mul-mid t)
+    (cost-span-shared-slice-read-mid t)
     (cost-span-cost-span-requires t)
     (cost-span-cost-span-requires-2 t)
     (cost-span-under-gate-requires t)
