@@ -9,7 +9,7 @@ use native.Mathlib.Nat.{add-zero, zero-add, suc-add}
 use native.Mathlib.Omega.{arith}
 use lib.ListN.{length, getD, set, take, drop, length-append, take-append-drop}
 use lib.Seq.{take-at, drop-at, getD-at}
-use Rattle.arith.proofs.Fill.{filled-more}
+use Rattle.arith.proofs.Fill.{Filled, filled-more}
 use Rattle.simd.specs.declared.Gate.{Gate}
 use Rattle.expr.specs.declared.Token.{Token}
 use Rattle.expr.specs.declared.Token.the-variants.{Constant, Variable, Binary, Not, Neg, Bad}
@@ -46,59 +46,46 @@ module _ (ops operands : List ℕ) where
       let q : m + n + k ≡ m + k + n = omega arith in
       ap (back ops operands (suc i)) p ∙ ap (back ops operands i) q ∙ back-add i (m + k) n
 
-  back-le : (i n : ℕ) → back ops operands i n ≤ i
+  pub back-le : (i n : ℕ) → back ops operands i n ≤ i
   unfolding back
   back-le zero n = omega arith
   back-le (suc i) zero = omega arith
   back-le (suc i) (suc n) = omega (arith, back-le i (n + arity (tokenAt ops operands i)))
 
   -- ---- one more start
-  module _ (starts : List ℕ) (i : ℕ) (s : Starts ops operands starts i) (taken : ℕ) (t : taken ≡ arity (tokenAt ops operands i)) where
-    step-back : (n : ℕ) → taken ≡ n → back ops operands i n ≡ back ops operands (i + 1) 1
+  module _ (starts : List ℕ) (i : ℕ) (s : Starts ops operands starts i) where
+    step-back : (n : ℕ) → arity (tokenAt ops operands i) ≡ n → back ops operands i n ≡ back ops operands (i + 1) 1
     unfolding back
     step-back n e =
         let z : 0 + arity (tokenAt ops operands i) ≡ arity (tokenAt ops operands i) = omega arith in
-        ap (back ops operands i) (sym e ∙ t ∙ sym z) ∙ ap (λ (k : ℕ). back ops operands k 1) (sym (add-one i))
+        ap (back ops operands i) (sym e ∙ sym z) ∙ ap (λ (k : ℕ). back ops operands k 1) (sym (add-one i))
 
-    pub start-leaf : taken ≡ 0 → i ≡ back ops operands (i + 1) 1
+    right-is : getD starts i 0 ≡ back ops operands i 1
+    right-is = s .each i (omega arith)
+
+    pub right-le : getD starts i 0 ≤ i
+    right-le = subst (λ (k : ℕ). k ≤ i) (sym right-is) (back-le i 1)
+
+    pub start-leaf : arity (tokenAt ops operands i) ≡ 0 → i ≡ back ops operands (i + 1) 1
     start-leaf e = sym (back-none i) ∙ step-back 0 e
 
-    pub start-first : i ≡ 0 → 0 ≡ back ops operands (i + 1) 1
-    start-first e = sym (back-start taken) ∙ ap (λ (k : ℕ). back ops operands k taken) (sym e) ∙ step-back taken refl
+    pub start-unary : arity (tokenAt ops operands i) ≡ 1 → getD starts i 0 ≡ back ops operands (i + 1) 1
+    start-unary e = right-is ∙ step-back 1 e
 
-    module _ (pos : (i ≡ 0 → ⊥)) where
-      pub right-is : getD starts (i - 1) 0 ≡ back ops operands i 1
-      right-is =
-          let p : suc (i - 1) ≡ i = omega arith in
-          s .each (i - 1) (omega arith) ∙ ap (λ (k : ℕ). back ops operands k 1) p
+    pub start-binary : (arity (tokenAt ops operands i) ≡ 0 → ⊥) → (arity (tokenAt ops operands i) ≡ 1 → ⊥) → getD starts (getD starts i 0) 0 ≡ back ops operands (i + 1) 1
+    start-binary a b =
+        let e : arity (tokenAt ops operands i) ≡ 2 = omega (arith, arity-le (tokenAt ops operands i)) in
+        s .each (getD starts i 0) right-le ∙ ap (λ (k : ℕ). back ops operands k 1) right-is ∙ sym (back-add i 1 1) ∙ step-back 2 e
 
-      pub right-le : getD starts (i - 1) 0 ≤ i
-      right-le = subst (λ (k : ℕ). k ≤ i) (sym right-is) (back-le i 1)
+  pub starts-none : (starts : List ℕ) → getD starts 0 0 ≡ 0 → Starts ops operands starts 0
+  unfolding back
+  starts-none starts e = record { each = λ k h. (let z : k ≡ 0 = omega arith in ap (λ (j : ℕ). getD starts j 0) z ∙ e ∙ ap (λ (j : ℕ). back ops operands j 1) (sym z)) }
 
-      pub start-unary : taken ≡ 1 → getD starts (i - 1) 0 ≡ back ops operands (i + 1) 1
-      start-unary e = right-is ∙ step-back 1 e
-
-      two-back : (taken ≡ 0 → ⊥) → (taken ≡ 1 → ⊥) → back ops operands (getD starts (i - 1) 0) 1 ≡ back ops operands (i + 1) 1
-      two-back a b =
-          let e : taken ≡ 2 = omega (arith, arity-le (tokenAt ops operands i)) in
-          ap (λ (k : ℕ). back ops operands k 1) right-is ∙ sym (back-add i 1 1) ∙ step-back 2 e
-
-      pub start-none : (taken ≡ 0 → ⊥) → (taken ≡ 1 → ⊥) → getD starts (i - 1) 0 ≡ 0 → 0 ≡ back ops operands (i + 1) 1
-      start-none a b e = sym (back-start 1) ∙ ap (λ (k : ℕ). back ops operands k 1) (sym e) ∙ two-back a b
-
-      pub start-binary : (taken ≡ 0 → ⊥) → (taken ≡ 1 → ⊥) → (getD starts (i - 1) 0 ≡ 0 → ⊥) → getD starts (getD starts (i - 1) 0 - 1) 0 ≡ back ops operands (i + 1) 1
-      start-binary a b e =
-          let r = right-le in
-          let p : suc (getD starts (i - 1) 0 - 1) ≡ getD starts (i - 1) 0 = omega arith in
-          s .each (getD starts (i - 1) 0 - 1) (omega arith) ∙ ap (λ (k : ℕ). back ops operands k 1) p ∙ two-back a b
-
-  pub starts-none : (starts : List ℕ) → Starts ops operands starts 0
-  starts-none starts = record { each = λ k h. absurd (omega arith) }
-
-  pub starts-more : (starts : List ℕ) (i v : ℕ) → i < length starts → Starts ops operands starts i → v ≡ back ops operands (i + 1) 1 → Starts ops operands (set starts i v) (i + 1)
-  starts-more starts i v h s e = record {
-    each = filled-more (λ (k : ℕ). back ops operands (suc k) 1) starts i v h (s .each) (e ∙ ap (λ (k : ℕ). back ops operands k 1) (add-one i));
-  }
+  pub starts-more : (starts : List ℕ) (i v : ℕ) → i + 1 < length starts → Starts ops operands starts i → v ≡ back ops operands (i + 1) 1 → Starts ops operands (set starts (i + 1) v) (i + 1)
+  starts-more starts i v h s e =
+      let all : Filled (λ (k : ℕ). back ops operands k 1) (set starts (i + 1) v) (i + 1 + 1) =
+      filled-more (λ (k : ℕ). back ops operands k 1) starts (i + 1) v h (λ k l. s .each k (omega arith)) e in
+      record { each = λ k l. all k (omega arith) }
 
   pub starts-all : (starts : List ℕ) (i count : ℕ) → count ≤ i → Starts ops operands starts i → Starts ops operands starts count
   starts-all starts i count h s = record { each = λ k l. s .each k (omega arith) }
@@ -391,14 +378,5 @@ module _ (ops operands : List ℕ) where
     pub span-bad : t ≡ Bad → ⊥
     span-bad e = bad-parts (tree-of from to s .tree) (last-of ∙ e)
 
-    -- a gate's span has three tokens or more
-    pub span-three : (g : Gate) → t ≡ Binary g → 3 ≤ to
-    span-three g e =
-        let mid = back ops operands (to - 1) 1 in
-        let two = span-gate g e mid refl in
-        omega (arith, span-pos from mid (two .left), span-pos mid (to - 1) (two .right))
-
-    pub span-mid : (starts : List ℕ) → Starts ops operands starts to → 2 ≤ to → getD starts (to - 1 - 1) 0 ≡ back ops operands (to - 1) 1
-    span-mid starts st h =
-        let p : suc (to - 1 - 1) ≡ to - 1 = omega arith in
-        st .each (to - 1 - 1) (omega arith) ∙ ap (λ (k : ℕ). back ops operands k 1) p
+    pub span-mid : (starts : List ℕ) → Starts ops operands starts to → getD starts (to - 1) 0 ≡ back ops operands (to - 1) 1
+    span-mid starts st = st .each (to - 1) (omega arith)

@@ -2,7 +2,7 @@
 use mathlib.Core.Path.{_≡_}
 use mathlib.Core.Bool.{true}
 use mathlib.Core.List.{List}
-use Prim.Native.Nat.{ℕ, zero, suc, _+_, _≤_, _<_}
+use Prim.Native.Nat.{ℕ, zero, suc, _+_, _≤_}
 use lib.ListN.{length, getD, drop}
 use Rattle.expr.specs.declared.Token.{Token}
 use Rattle.expr.specs.declared.Token.the-variants.{Constant, Variable, Binary, Not, Neg, Bad}
@@ -24,9 +24,9 @@ back ops operands zero need = zero
 back ops operands (suc i) zero = suc i
 back ops operands (suc i) (suc n) = back ops operands i (n + arity (tokenAt ops operands i))
 
--- for each of the first `count` tokens, where the formula that ends with it begins
+-- for each place up to `count`, where the formula that ends before it begins
 pub record Starts (ops operands starts : List ℕ) (count : ℕ) : Type 0 where
-  pub each : (k : ℕ) → k < count → getD starts k 0 ≡ back ops operands (suc k) 1
+  pub each : (k : ℕ) → k ≤ count → getD starts k 0 ≡ back ops operands k 1
 
 -- the tokens from `from` up to `to`
 unfoldable pub spanOf : List ℕ → List ℕ → ℕ → ℕ → List Token

@@ -75,44 +75,38 @@ pub fn eval_tokens(w: u32, count: usize, ops: &[u8], operands: &[u64], words: &[
     stack[0]
 }
 
-// For each of the first `count` tokens, where the formula that ends with it begins. One pass, so that the cost takes one step a token.
-pub fn span_starts(ops: &[u8], operands: &[u64], count: usize) -> [usize; 64]
+// For each place up to `count`, where the formula that ends before it begins. One pass, so that the cost takes one step a token.
+pub fn span_starts(ops: &[u8], operands: &[u64], count: usize) -> [u8; 65]
     requires { ⌜ count ≤ 64 ⌝ }
     ensures { λ r. ⌜ Starts (now (ops .entry)) (now (operands .entry)) r count ⌝ }
 {
-    let mut starts = [0usize; MAX_TOKENS];
+    let mut starts = [0u8; MAX_TOKENS + 1];
     let mut i: usize = 0;
     while i < count {
-        starts[i] = start_at(ops, operands, &starts, i);
+        let start = start_after(ops, operands, &starts, i);
         i += 1;
+        starts[i] = start as u8;
     }
     starts
 }
 
-// The same for one token, from the starts before it.
-fn start_at(ops: &[u8], operands: &[u64], starts: &[usize], i: usize) -> usize
-    requires { ⌜ (i < 64) × ((i ≤ length (now starts)) × Starts (now ops) (now operands) (now starts) i) ⌝ }
+// The same for the place after token i, from the starts up to it: a leaf begins where it stands, Not and Neg where their operand begins,
+// a gate where its left operand does. All three are looked up first, so that no branch depends on the token.
+fn start_after(ops: &[u8], operands: &[u64], starts: &[u8], i: usize) -> usize
+    requires { ⌜ (i < length (now starts)) × Starts (now ops) (now operands) (now starts) i ⌝ }
     ensures { λ r. ⌜ r ≡ back (now (ops .entry)) (now (operands .entry)) (i + 1) 1 ⌝ }
 {
-    let taken = takes(crate::token_at(ops, operands, i));
-    if taken == 0 {
-        return i;
+    let right = starts[i] as usize;
+    let left = starts[right] as usize;
+    match takes(crate::token_at(ops, operands, i)) {
+        0 => i,
+        1 => right,
+        _ => left,
     }
-    if i == 0 {
-        return 0;
-    }
-    let right = starts[i - 1];
-    if taken == 1 {
-        return right;
-    }
-    if right == 0 {
-        return 0;
-    }
-    starts[right - 1]
 }
 
 // The cost of the formula that stands from `from` up to `to`, found by going down into its operands, each shorter than the whole.
-pub fn cost_span(ops: &[u8], operands: &[u64], starts: &[usize], from: usize, to: usize) -> CostInfo
+pub fn cost_span(ops: &[u8], operands: &[u64], starts: &[u8], from: usize, to: usize) -> CostInfo
     requires { ⌜ Span (now ops) (now operands) from to × ((to ≤ length (now starts)) × Starts (now ops) (now operands) (now starts) to) ⌝ }
     ensures { λ r. ⌜ r ≡ infoOf (spanOf (now (ops .entry)) (now (operands .entry)) from to) ⌝ }
 {
@@ -121,7 +115,7 @@ pub fn cost_span(ops: &[u8], operands: &[u64], starts: &[usize], from: usize, to
         Token::Constant(_) => CostInfo::leaf(false),
         Token::Variable(_) => CostInfo::leaf(true),
         Token::Binary(g) => {
-            let mid = starts[last - 1];
+            let mid = starts[last] as usize;
             let a = cost_span(ops, operands, starts, from, mid);
             let b = cost_span(ops, operands, starts, mid, last);
             a.under_gate(b, g)

@@ -11,7 +11,7 @@ use Rattle.expr.specs.declared.Token.the-variants.{Constant, Variable, B
 use Rattle.expr.specs.declared.CostInfo.{CostInfo}
 use Rattle.expr.specs.Cost.{Roomy, infoUnary, infoGate}
 use Rattle.expr.specs.Span.{arity, Span}
-use Rattle.expr.proofs.Spans.{starts-all, span-pos, span-roomy, span-gate, span-unary, span-constant, span-variable, span-bad, span-three, span-mid}
+use Rattle.expr.proofs.Spans.{starts-all, span-pos, span-roomy, span-gate, span-unary, span-constant, span-variable, span-bad, span-mid}
 use Rattle.expr.proofs.Token.{the-type}
 use borrow.Author.Needs.{needs}
 use native.Mathlib.Omega.{arith}
@@ -154,46 +154,6 @@ cost-span-enum-known-g : (t : ℕ) → cost-span-lts.Need-enum-known-g (
 ) (cost-span-at t) cost-span.Post
 cost-span-enum-known-g t c = search needs
 
-cost-span-sub-mid : (t : ℕ) → cost-span-lts.Need-sub-mid (
-  token-at-reads.Asked,
-  token-at-reads.Learnt,
-  leaf-reads.Asked,
-  leaf-reads.Learnt,
-  cost-span-below t,
-  cost-span.Post,
-  under-gate-reads.Asked,
-  under-gate-reads.Learnt,
-  under-unary-reads.Asked,
-  under-unary-reads.Learnt,
-) (cost-span-at t) cost-span.Post
-cost-span-sub-mid t c =
-    let s = c .before .before .before .before .before .before .before .args in
-    let sp : Span (s .ops .now) (s .operands .now) (s .from) (s .to) = c .before .before .before .before .before .before .before .pre .1 .0 in
-    let pos = span-pos (s .ops .now) (s .operands .now) (s .from) (s .to) sp in
-    let most = sp .most in
-    let n = span-three (s .ops .now) (s .operands .now) (s .from) (s .to) sp (c .before .before .before .token-at .result) (sym (c .before .before .before .token-at .ensures)) _ (c .before .g .given .1) in
-    omega arith
-
-cost-span-mul-mid : (t : ℕ) → cost-span-lts.Need-mul-mid (
-  token-at-reads.Asked,
-  token-at-reads.Learnt,
-  leaf-reads.Asked,
-  leaf-reads.Learnt,
-  cost-span-below t,
-  cost-span.Post,
-  under-gate-reads.Asked,
-  under-gate-reads.Learnt,
-  under-unary-reads.Asked,
-  under-unary-reads.Learnt,
-) (cost-span-at t) cost-span.Post
-cost-span-mul-mid t c =
-    let s = c .before .before .before .before .before .before .before .args in
-    let sp : Span (s .ops .now) (s .operands .now) (s .from) (s .to) = c .before .before .before .before .before .before .before .pre .1 .0 in
-    let pos = span-pos (s .ops .now) (s .operands .now) (s .from) (s .to) sp in
-    let most = sp .most in
-    let n = span-three (s .ops .now) (s .operands .now) (s .from) (s .to) sp (c .before .before .before .token-at .result) (sym (c .before .before .before .token-at .ensures)) _ (c .before .g .given .1) in
-    record { fits = omega arith }
-
 cost-span-shared-slice-read-mid : (t : ℕ) → cost-span-lts.Need-shared-slice-read-mid (
   token-at-reads.Asked,
   token-at-reads.Learnt,
@@ -211,9 +171,22 @@ cost-span-shared-slice-read-mid t c =
     let sp : Span (s .ops .now) (s .operands .now) (s .from) (s .to) = c .before .before .before .before .before .before .before .before .pre .1 .0 in
     let pos = span-pos (s .ops .now) (s .operands .now) (s .from) (s .to) sp in
     let most = sp .most in
-    let n = span-three (s .ops .now) (s .operands .now) (s .from) (s .to) sp (c .before .before .before .before .token-at .result) (sym (c .before .before .before .before .token-at .ensures)) _ (c .before .before .g .given .1) in
     let long : s .to ≤ length (s .starts .now) = c .before .before .before .before .before .before .before .before .pre .1 .1 .0 in
     omega arith
+
+cost-span-cast-mid : (t : ℕ) → cost-span-lts.Need-cast-mid (
+  token-at-reads.Asked,
+  token-at-reads.Learnt,
+  leaf-reads.Asked,
+  leaf-reads.Learnt,
+  cost-span-below t,
+  cost-span.Post,
+  under-gate-reads.Asked,
+  under-gate-reads.Learnt,
+  under-unary-reads.Asked,
+  under-unary-reads.Learnt,
+) (cost-span-at t) cost-span.Post
+cost-span-cast-mid t c = omega (arith, c .shared-slice-known4 .given (c .before .before .before .before .before .before .before .before .args .to - 1))
 
 cost-span-cost-span-requires : (t : ℕ) → cost-span-lts.Need-cost-span-requires (
   token-at-reads.Asked,
@@ -232,9 +205,8 @@ cost-span-cost-span-requires t c κs =
     let sp : Span (s .ops .now) (s .operands .now) (s .from) (s .to) = c .before .before .before .before .before .before .before .before .pre .1 .0 in
     let pos = span-pos (s .ops .now) (s .operands .now) (s .from) (s .to) sp in
     let most = sp .most in
-    let n = span-three (s .ops .now) (s .operands .now) (s .from) (s .to) sp (c .before .before .before .before .token-at .result) (sym (c .before .before .before .before .token-at .ensures)) _ (c .before .before .g .given .1) in
-    let mid = getD (s .starts .now) (s .to - 1 - 1) 0 in
-    let two = span-gate (s .ops .now) (s .operands .now) (s .from) (s .to) sp (c .before .before .before .before .token-at .result) (sym (c .before .before .before .before .token-at .ensures)) _ (c .before .before .g .given .1) mid (span-mid (s .ops .now) (s .operands .now) (s .from) (s .to) sp (c .before .before .before .before .token-at .result) (sym (c .before .before .before .before .token-at .ensures)) (s .starts .now) (c .before .before .before .before .before .before .before .before .pre .1 .1 .1) (omega arith)) in
+    let mid = getD (s .starts .now) (s .to - 1) 0 in
+    let two = span-gate (s .ops .now) (s .operands .now) (s .from) (s .to) sp (c .before .before .before .before .token-at .result) (sym (c .before .before .before .before .token-at .ensures)) _ (c .before .before .g .given .1) mid (span-mid (s .ops .now) (s .operands .now) (s .from) (s .to) sp (c .before .before .before .before .token-at .result) (sym (c .before .before .before .before .token-at .ensures)) (s .starts .now) (c .before .before .before .before .before .before .before .before .pre .1 .1 .1)) in
     let l = span-pos (s .ops .now) (s .operands .now) (s .from) mid (two .left) in
     let r = span-pos (s .ops .now) (s .operands .now) mid (s .to - 1) (two .right) in
     let is : s .to - s .from ≡ t = c .before .before .before .before .before .before .before .before .pre .0 in
@@ -258,9 +230,8 @@ cost-span-cost-span-requires-2 t c κs =
     let sp : Span (s .ops .now) (s .operands .now) (s .from) (s .to) = c .before .before .before .before .before .before .before .before .before .pre .1 .0 in
     let pos = span-pos (s .ops .now) (s .operands .now) (s .from) (s .to) sp in
     let most = sp .most in
-    let n = span-three (s .ops .now) (s .operands .now) (s .from) (s .to) sp (c .before .before .before .before .before .token-at .result) (sym (c .before .before .before .before .before .token-at .ensures)) _ (c .before .before .before .g .given .1) in
-    let mid = getD (s .starts .now) (s .to - 1 - 1) 0 in
-    let two = span-gate (s .ops .now) (s .operands .now) (s .from) (s .to) sp (c .before .before .before .before .before .token-at .result) (sym (c .before .before .before .before .before .token-at .ensures)) _ (c .before .before .before .g .given .1) mid (span-mid (s .ops .now) (s .operands .now) (s .from) (s .to) sp (c .before .before .before .before .before .token-at .result) (sym (c .before .before .before .before .before .token-at .ensures)) (s .starts .now) (c .before .before .before .before .before .before .before .before .before .pre .1 .1 .1) (omega arith)) in
+    let mid = getD (s .starts .now) (s .to - 1) 0 in
+    let two = span-gate (s .ops .now) (s .operands .now) (s .from) (s .to) sp (c .before .before .before .before .before .token-at .result) (sym (c .before .before .before .before .before .token-at .ensures)) _ (c .before .before .before .g .given .1) mid (span-mid (s .ops .now) (s .operands .now) (s .from) (s .to) sp (c .before .before .before .before .before .token-at .result) (sym (c .before .before .before .before .before .token-at .ensures)) (s .starts .now) (c .before .before .before .before .before .before .before .before .before .pre .1 .1 .1)) in
     let l = span-pos (s .ops .now) (s .operands .now) (s .from) mid (two .left) in
     let r = span-pos (s .ops .now) (s .operands .now) mid (s .to - 1) (two .right) in
     let is : s .to - s .from ≡ t = c .before .before .before .before .before .before .before .before .before .pre .0 in
@@ -284,9 +255,8 @@ cost-span-under-gate-requires t c κs =
     let sp : Span (s .ops .now) (s .operands .now) (s .from) (s .to) = c .before .before .before .before .before .before .before .before .before .before .pre .1 .0 in
     let pos = span-pos (s .ops .now) (s .operands .now) (s .from) (s .to) sp in
     let most = sp .most in
-    let n = span-three (s .ops .now) (s .operands .now) (s .from) (s .to) sp (c .before .before .before .before .before .before .token-at .result) (sym (c .before .before .before .before .before .before .token-at .ensures)) _ (c .before .before .before .before .g .given .1) in
-    let mid = getD (s .starts .now) (s .to - 1 - 1) 0 in
-    let two = span-gate (s .ops .now) (s .operands .now) (s .from) (s .to) sp (c .before .before .before .before .before .before .token-at .result) (sym (c .before .before .before .before .before .before .token-at .ensures)) _ (c .before .before .before .before .g .given .1) mid (span-mid (s .ops .now) (s .operands .now) (s .from) (s .to) sp (c .before .before .before .before .before .before .token-at .result) (sym (c .before .before .before .before .before .before .token-at .ensures)) (s .starts .now) (c .before .before .before .before .before .before .before .before .before .before .pre .1 .1 .1) (omega arith)) in
+    let mid = getD (s .starts .now) (s .to - 1) 0 in
+    let two = span-gate (s .ops .now) (s .operands .now) (s .from) (s .to) sp (c .before .before .before .before .before .before .token-at .result) (sym (c .before .before .before .before .before .before .token-at .ensures)) _ (c .before .before .before .before .g .given .1) mid (span-mid (s .ops .now) (s .operands .now) (s .from) (s .to) sp (c .before .before .before .before .before .before .token-at .result) (sym (c .before .before .before .before .before .before .token-at .ensures)) (s .starts .now) (c .before .before .before .before .before .before .before .before .before .before .pre .1 .1 .1)) in
     let l = span-pos (s .ops .now) (s .operands .now) (s .from) mid (two .left) in
     let r = span-pos (s .ops .now) (s .operands .now) mid (s .to - 1) (two .right) in (
       subst (λ (x : CostInfo). Roomy (x .cost)) (sym (c .before .cost-span .ensures)) (span-roomy (s .ops .now) (s .operands .now) (s .from) mid (two .left)),
@@ -418,9 +388,8 @@ cost-span-returns-3 t c =
     let sp : Span (s .ops .now) (s .operands .now) (s .from) (s .to) = c .before .before .before .before .before .before .before .before .before .before .before .pre .1 .0 in
     let pos = span-pos (s .ops .now) (s .operands .now) (s .from) (s .to) sp in
     let most = sp .most in
-    let n = span-three (s .ops .now) (s .operands .now) (s .from) (s .to) sp (c .before .before .before .before .before .before .before .token-at .result) (sym (c .before .before .before .before .before .before .before .token-at .ensures)) _ (c .before .before .before .before .before .g .given .1) in
-    let mid = getD (s .starts .now) (s .to - 1 - 1) 0 in
-    let two = span-gate (s .ops .now) (s .operands .now) (s .from) (s .to) sp (c .before .before .before .before .before .before .before .token-at .result) (sym (c .before .before .before .before .before .before .before .token-at .ensures)) _ (c .before .before .before .before .before .g .given .1) mid (span-mid (s .ops .now) (s .operands .now) (s .from) (s .to) sp (c .before .before .before .before .before .before .before .token-at .result) (sym (c .before .before .before .before .before .before .before .token-at .ensures)) (s .starts .now) (c .before .before .before .before .before .before .before .before .before .before .before .pre .1 .1 .1) (omega arith)) in
+    let mid = getD (s .starts .now) (s .to - 1) 0 in
+    let two = span-gate (s .ops .now) (s .operands .now) (s .from) (s .to) sp (c .before .before .before .before .before .before .before .token-at .result) (sym (c .before .before .before .before .before .before .before .token-at .ensures)) _ (c .before .before .before .before .before .g .given .1) mid (span-mid (s .ops .now) (s .operands .now) (s .from) (s .to) sp (c .before .before .before .before .before .before .before .token-at .result) (sym (c .before .before .before .before .before .before .before .token-at .ensures)) (s .starts .now) (c .before .before .before .before .before .before .before .before .before .before .before .pre .1 .1 .1)) in
     let l = span-pos (s .ops .now) (s .operands .now) (s .from) mid (two .left) in
     let r = span-pos (s .ops .now) (s .operands .now) mid (s .to - 1) (two .right) in
     c .under-gate .ensures ∙ ap₂ (λ (x y : CostInfo). infoGate (c .before .before .before .before .before .g .given .0 .0) x y) (c .before .before .cost-span .ensures) (c .before .cost-span2 .ensures) ∙ two .cost
@@ -486,9 +455,8 @@ pub +cost-span-spec : {M : Type 1} → statement M
     (cost-span-enum-told-2 t)
     (cost-span-leaf-requires-2 t)
     (cost-span-enum-known-g t)
-    (cost-span-sub-mid t)
-    (cost-span-mul-mid t)
     (cost-span-shared-slice-read-mid t)
+    (cost-span-cast-mid t)
     (cost-span-cost-span-requires t)
     (cost-span-cost-span-requires-2 t)
     (cost-span-under-gate-requires t)
