@@ -377,6 +377,3 @@ module _ (ops operands : List ℕ) where
 
     pub span-bad : t ≡ Bad → ⊥
     span-bad e = bad-parts (tree-of from to s .tree) (last-of ∙ e)
-
-    pub span-mid : (starts : List ℕ) → Starts ops operands starts to → getD starts (to - 1) 0 ≡ back ops operands (to - 1) 1
-    span-mid starts st = st .each (to - 1) (omega arith)

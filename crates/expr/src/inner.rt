@@ -75,7 +75,7 @@ pub fn eval_tokens(w: u32, count: usize, ops: &[u8], operands: &[u64], words: &[
     stack[0]
 }
 
-// For each place up to `count`, where the formula that ends before it begins. One pass, so that the cost takes one step a token.
+// For each place up to `count`, where the formula that ends before it begins. Found in one pass, so that the cost goes down without a search.
 pub fn span_starts(ops: &[u8], operands: &[u64], count: usize) -> [u8; 65]
     requires { ⌜ count ≤ 64 ⌝ }
     ensures { λ r. ⌜ Starts (now (ops .entry)) (now (operands .entry)) r count ⌝ }
@@ -91,7 +91,7 @@ pub fn span_starts(ops: &[u8], operands: &[u64], count: usize) -> [u8; 65]
 }
 
 // The same for the place after token i, from the starts up to it: a leaf begins where it stands, Not and Neg where their operand begins,
-// a gate where its left operand does. All three are looked up first, so that no branch depends on the token.
+// a gate where its left operand does.
 fn start_after(ops: &[u8], operands: &[u64], starts: &[u8], i: usize) -> usize
     requires { ⌜ (i < length (now starts)) × Starts (now ops) (now operands) (now starts) i ⌝ }
     ensures { λ r. ⌜ r ≡ back (now (ops .entry)) (now (operands .entry)) (i + 1) 1 ⌝ }
