@@ -1,9 +1,8 @@
 -- Spans of tokens: where the formula that ends at a place begins, the parts of a span and its cost. Assumes nothing.
 use mathlib.Core.Path.{_≡_, refl, sym, ap, ap₂, _∙_, subst}
-use mathlib.Core.Bool.{Bool, true, false, cond, _||_}
-use mathlib.Core.List.{List, [], _∷_, _++_, append-assoc, append-nil}
-use mathlib.Core.Option.{Option, none, some}
-use Prim.Native.Nat.{ℕ, zero, suc, _+_, _-_, _*_, _≤_, _<_, _^_, max}
+use mathlib.Core.Bool.{Bool, true, false, cond}
+use mathlib.Core.List.{List, [], _∷_, _++_, append-assoc}
+use Prim.Native.Nat.{ℕ, zero, suc, _+_, _-_, _*_, _≤_, _<_}
 use native.Mathlib.Numerals.{add-one, add-two}
 use native.Mathlib.Nat.{add-zero, zero-add, suc-add}
 use native.Mathlib.Omega.{arith}
@@ -15,13 +14,13 @@ use Rattle.expr.specs.declared.Token.{Token}
 use Rattle.expr.specs.declared.Token.the-variants.{Constant, Variable, Binary, Not, Neg, Bad}
 use Rattle.expr.specs.declared.Cost.{Cost}
 use Rattle.expr.specs.declared.CostInfo.{CostInfo}
-use Rattle.expr.specs.Formula.{tokenAt, tokens, whole, orElse, leavesOne, isFormula}
+use Rattle.expr.specs.Formula.{tokenAt, tokens, orElse, leavesOne, isFormula}
 use Rattle.expr.specs.Cost.{leafInfo, infoUnary, infoGate, isNonlinear, costAlg, noCost, infoOf, Roomy}
 use Rattle.expr.specs.Tree.{Tree, written, fold}
 use Rattle.expr.specs.Tree.Tree.{constant, variable, inverted, negated, gated}
 use Rattle.expr.specs.Span.{arity, back, Starts, spanOf, Span}
 use Rattle.expr.proofs.Tokens.{tokens-length, tokens-take}
-use Rattle.expr.proofs.Machine.{arity-le, Passed, passed}
+use Rattle.expr.proofs.Machine.{arity-le, passed}
 use Rattle.expr.proofs.Trees.{whole-tree, Formed, formed, leaves-one-tree, written-pos}
 
 -- ---- going back

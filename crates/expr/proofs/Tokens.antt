@@ -1,18 +1,16 @@
 -- Laws of tokens and of how they are read. Assumes nothing.
 use mathlib.Core.Path.{_≡_, refl, sym, ap, ap₂, _∙_}
-use mathlib.Core.Bool.{Bool, true, false, cond, _&&_}
-use mathlib.Core.List.{List, [], _∷_, _++_}
+use mathlib.Core.List.{List, [], _∷_}
 use Prim.Native.Nat.{ℕ, zero, suc, _+_, _≤_, _<_}
 use native.Mathlib.Numerals.{add-one}
 use native.Mathlib.Omega.{arith}
 use borrow.Author.Tests.{lt-ltb, le-ltb}
-use lib.Dec.{ltb}
 use lib.ListN.{length, getD, take, drop, length-append, List·getD-append}
 use lib.Seq.{getD-at, drop-cons, take-all, take-append-le}
 use Rattle.arith.proofs.Remainders.{le-or-lt}
 use mathlib.Core.Logic.{_⊎_, inl, inr}
 use Rattle.expr.specs.declared.Token.{Token}
-use Rattle.expr.specs.declared.Token.the-variants.{Constant, Variable, Binary, Not, Neg, Bad}
+use Rattle.expr.specs.declared.Token.the-variants.{Bad}
 use Rattle.expr.specs.Formula.{tokenOf, tokenAt, tokens}
 
 -- ---- one token

@@ -1,7 +1,7 @@
 -- `expr::inner::cost_span` meets its contract: a span is a tree written out, its operands are spans, and its token count falls. Assumes nothing.
 use mathlib.Core.Path.{_≡_, sym, ap, ap₂, _∙_, subst}
-use mathlib.Core.List.{List, [], _∷_}
-use mathlib.Core.Logic.{_⊎_, inl, inr}
+use mathlib.Core.List.{[], _∷_}
+use mathlib.Core.Logic.{inl, inr}
 use Prim.Native.Nat.{ℕ, _<_, _≤_, _-_}
 use types.Run.{OneOf}
 use denote.Enum.Declared.{tagOf}
