@@ -1,14 +1,13 @@
 -- Laws of costs: `isBetter` is a strict order. Assumes nothing.
-use mathlib.Core.Path.{_≡_, refl, sym, ap, _∙_, subst}
+use mathlib.Core.Path.{_≡_, refl, sym, ap, _∙_}
 use mathlib.Core.Logic.{_⊎_, inl, inr}
 use mathlib.Core.Bool.{Bool, true, false, cond}
-use Prim.Native.Nat.{ℕ, _+_, _<_, _≤_, _^_, max}
+use Prim.Native.Nat.{ℕ, _+_, _<_, max}
 use native.Mathlib.Nat.{add-zero}
 use native.Mathlib.Decide.{ℕ-discrete}
 use native.Mathlib.Omega.{arith}
-use lib.Dec.{eqb, ltb}
+use lib.Dec.{ltb}
 use borrow.Author.Tests.{eq-eqb, ne-eqb, lt-ltb, le-ltb, ltb-true}
-use Rattle.arith.proofs.Refusals.{true-not-false}
 use Rattle.arith.proofs.Remainders.{le-or-lt}
 use Rattle.expr.specs.declared.Cost.{Cost}
 use Rattle.expr.specs.Cost.{underGate, isBetter}

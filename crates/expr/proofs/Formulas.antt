@@ -1,9 +1,9 @@
 -- Laws of formulas that the crates above cite: what f Not, f Neg and f g gate give, from f and g; bounds; one token by itself. Assumes nothing.
-use mathlib.Core.Path.{_≡_, refl, sym, ap, ap₂, _∙_, subst, subst₂}
-use mathlib.Core.Bool.{Bool, true, false, cond, _&&_}
+use mathlib.Core.Path.{_≡_, refl, sym, ap, ap₂, _∙_, subst}
+use mathlib.Core.Bool.{Bool, true, false, cond}
 use mathlib.Core.List.{List, [], _∷_, _++_}
 use mathlib.Core.Option.{Option, none, some}
-use Prim.Native.Nat.{ℕ, suc, _+_, _-_, _*_, _%_, _^_, _≤_, _<_}
+use Prim.Native.Nat.{ℕ, _+_, _-_, _%_, _^_, _≤_, _<_}
 use native.Mathlib.Nat.{mod-lt}
 use native.Mathlib.Omega.{arith}
 use borrow.Author.Tests.{lt-ltb}
@@ -15,14 +15,14 @@ use Rattle.simd.specs.Gates.{gateOf}
 use Rattle.simd.specs.declared.Gate.{Gate}
 use Rattle.simd.proofs.GateLaws.{gate-lt}
 use Rattle.expr.specs.declared.Token.{Token}
-use Rattle.expr.specs.declared.Token.the-variants.{Constant, Variable, Binary, Not, Neg, Bad}
+use Rattle.expr.specs.declared.Token.the-variants.{Constant, Variable, Binary, Not, Neg}
 use Rattle.expr.specs.declared.CostInfo.{CostInfo}
-use Rattle.expr.specs.Formula.{Alg, step, run, only, whole, orElse, isSome, leavesOne, known, allKnown, isFormula, valueAlg, valueOf}
+use Rattle.expr.specs.Formula.{Alg, step, run, only, whole, orElse, isSome, leavesOne, isFormula, valueAlg, valueOf}
 use Rattle.expr.specs.Cost.{leafInfo, infoUnary, infoGate, isNonlinear, costAlg, noCost, infoOf, costOf, Roomy}
 use Rattle.expr.specs.Tree.{Tree, written, within, fold}
 use Rattle.expr.specs.Tree.Tree.{constant, variable, inverted, negated, gated}
-use Rattle.expr.proofs.Machine.{and-both, Passed, passed, passing, all-known-append, leaves-one-any}
-use Rattle.expr.proofs.Trees.{whole-tree, Formed, formed, leaves-one-tree, IsTree, formula-is-tree, tree-is-formula}
+use Rattle.expr.proofs.Machine.{and-both, passed, leaves-one-any}
+use Rattle.expr.proofs.Trees.{whole-tree, Formed, formed, formula-is-tree, tree-is-formula}
 use Rattle.expr.proofs.Spans.{info-tree, tree-roomy}
 
 -- ---- at any algebra: what is read of f Not, f Neg, f g gate

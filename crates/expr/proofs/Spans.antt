@@ -1,39 +1,30 @@
 -- Spans of tokens: where the formula that ends at a place begins, the parts of a span and its cost. Assumes nothing.
 use mathlib.Core.Path.{_≡_, refl, sym, ap, ap₂, _∙_, subst}
-use mathlib.Core.Bool.{Bool, true, false, cond, _||_}
-use mathlib.Core.List.{List, [], _∷_, _++_, append-assoc, append-nil}
-use mathlib.Core.Option.{Option, none, some}
-use Prim.Native.Nat.{ℕ, zero, suc, _+_, _-_, _*_, _≤_, _<_, _^_, max}
+use mathlib.Core.Bool.{Bool, true, false, cond}
+use mathlib.Core.List.{List, [], _∷_, _++_, append-assoc}
+use Prim.Native.Nat.{ℕ, zero, suc, _+_, _-_, _*_, _≤_, _<_}
 use native.Mathlib.Numerals.{add-one, add-two}
-use native.Mathlib.Nat.{add-zero}
+use native.Mathlib.Nat.{add-zero, zero-add, suc-add}
 use native.Mathlib.Omega.{arith}
-use lib.ListN.{length, getD, take, drop, length-append, take-append-drop}
+use lib.ListN.{length, getD, set, take, drop, length-append, take-append-drop}
 use lib.Seq.{take-at, drop-at, getD-at}
+use Rattle.arith.proofs.Fill.{Filled, filled-more}
 use Rattle.simd.specs.declared.Gate.{Gate}
 use Rattle.expr.specs.declared.Token.{Token}
 use Rattle.expr.specs.declared.Token.the-variants.{Constant, Variable, Binary, Not, Neg, Bad}
 use Rattle.expr.specs.declared.Cost.{Cost}
 use Rattle.expr.specs.declared.CostInfo.{CostInfo}
-use Rattle.expr.specs.Formula.{tokenAt, tokens, whole, orElse, leavesOne, isFormula}
+use Rattle.expr.specs.Formula.{tokenAt, tokens, orElse, leavesOne, isFormula}
 use Rattle.expr.specs.Cost.{leafInfo, infoUnary, infoGate, isNonlinear, costAlg, noCost, infoOf, Roomy}
 use Rattle.expr.specs.Tree.{Tree, written, fold}
 use Rattle.expr.specs.Tree.Tree.{constant, variable, inverted, negated, gated}
-use Rattle.expr.specs.Span.{arity, back, spanOf, Span}
+use Rattle.expr.specs.Span.{arity, back, Starts, spanOf, Span}
 use Rattle.expr.proofs.Tokens.{tokens-length, tokens-take}
-use Rattle.expr.proofs.Machine.{Passed, passed}
+use Rattle.expr.proofs.Machine.{arity-le, passed}
 use Rattle.expr.proofs.Trees.{whole-tree, Formed, formed, leaves-one-tree, written-pos}
 
 -- ---- going back
 module _ (ops operands : List ℕ) where
-  pub back-step : (i n : ℕ) → 0 < i → (n ≡ 0 → ⊥) → back ops operands i n ≡ back ops operands (i - 1) (n - 1 + arity (tokenAt ops operands (i - 1)))
-  unfolding back
-  back-step zero n h k = absurd (omega arith)
-  back-step (suc i) zero h k = absurd (k refl)
-  back-step (suc i) (suc n) h k =
-      let p : i ≡ suc i - 1 = omega arith in
-      let q : n ≡ suc n - 1 = omega arith in
-      rw (← p, ← q) refl
-
   pub back-none : (i : ℕ) → back ops operands i 0 ≡ i
   unfolding back
   back-none zero = refl
@@ -42,6 +33,61 @@ module _ (ops operands : List ℕ) where
   pub back-start : (n : ℕ) → back ops operands 0 n ≡ 0
   unfolding back
   back-start n = refl
+
+  -- values taken one after the other
+  back-add : (i m n : ℕ) → back ops operands i (m + n) ≡ back ops operands (back ops operands i m) n
+  unfolding back
+  back-add zero m n = refl
+  back-add (suc i) zero n = ap (back ops operands (suc i)) (zero-add n)
+  back-add (suc i) (suc m) n =
+      let k = arity (tokenAt ops operands i) in
+      let p : suc m + n ≡ suc (m + n) = suc-add m n in
+      let q : m + n + k ≡ m + k + n = omega arith in
+      ap (back ops operands (suc i)) p ∙ ap (back ops operands i) q ∙ back-add i (m + k) n
+
+  pub back-le : (i n : ℕ) → back ops operands i n ≤ i
+  unfolding back
+  back-le zero n = omega arith
+  back-le (suc i) zero = omega arith
+  back-le (suc i) (suc n) = omega (arith, back-le i (n + arity (tokenAt ops operands i)))
+
+  -- ---- one more start
+  module _ (starts : List ℕ) (i : ℕ) (s : Starts ops operands starts i) where
+    step-back : (n : ℕ) → arity (tokenAt ops operands i) ≡ n → back ops operands i n ≡ back ops operands (i + 1) 1
+    unfolding back
+    step-back n e =
+        let z : 0 + arity (tokenAt ops operands i) ≡ arity (tokenAt ops operands i) = omega arith in
+        ap (back ops operands i) (sym e ∙ sym z) ∙ ap (λ (k : ℕ). back ops operands k 1) (sym (add-one i))
+
+    right-is : getD starts i 0 ≡ back ops operands i 1
+    right-is = s .each i (omega arith)
+
+    pub right-le : getD starts i 0 ≤ i
+    right-le = subst (λ (k : ℕ). k ≤ i) (sym right-is) (back-le i 1)
+
+    pub start-leaf : arity (tokenAt ops operands i) ≡ 0 → i ≡ back ops operands (i + 1) 1
+    start-leaf e = sym (back-none i) ∙ step-back 0 e
+
+    pub start-unary : arity (tokenAt ops operands i) ≡ 1 → getD starts i 0 ≡ back ops operands (i + 1) 1
+    start-unary e = right-is ∙ step-back 1 e
+
+    pub start-binary : (arity (tokenAt ops operands i) ≡ 0 → ⊥) → (arity (tokenAt ops operands i) ≡ 1 → ⊥) → getD starts (getD starts i 0) 0 ≡ back ops operands (i + 1) 1
+    start-binary a b =
+        let e : arity (tokenAt ops operands i) ≡ 2 = omega (arith, arity-le (tokenAt ops operands i)) in
+        s .each (getD starts i 0) right-le ∙ ap (λ (k : ℕ). back ops operands k 1) right-is ∙ sym (back-add i 1 1) ∙ step-back 2 e
+
+  pub starts-none : (starts : List ℕ) → getD starts 0 0 ≡ 0 → Starts ops operands starts 0
+  unfolding back
+  starts-none starts e = record { each = λ k h. (let z : k ≡ 0 = omega arith in ap (λ (j : ℕ). getD starts j 0) z ∙ e ∙ ap (λ (j : ℕ). back ops operands j 1) (sym z)) }
+
+  pub starts-more : (starts : List ℕ) (i v : ℕ) → i + 1 < length starts → Starts ops operands starts i → v ≡ back ops operands (i + 1) 1 → Starts ops operands (set starts (i + 1) v) (i + 1)
+  starts-more starts i v h s e =
+      let all : Filled (λ (k : ℕ). back ops operands k 1) (set starts (i + 1) v) (i + 1 + 1) =
+      filled-more (λ (k : ℕ). back ops operands k 1) starts (i + 1) v h (λ k l. s .each k (omega arith)) e in
+      record { each = λ k l. all k (omega arith) }
+
+  pub starts-all : (starts : List ℕ) (i count : ℕ) → count ≤ i → Starts ops operands starts i → Starts ops operands starts count
+  starts-all starts i count h s = record { each = λ k l. s .each k (omega arith) }
 
 -- what passes the test is one span
 pub whole-span : (nv count : ℕ) (ops operands : List ℕ) → isFormula nv (tokens count ops operands) ≡ true → Span ops operands 0 count

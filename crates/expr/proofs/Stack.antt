@@ -1,14 +1,13 @@
 -- The stack in an array, and one turn of the evaluator. Assumes nothing.
 use mathlib.Core.Path.{_≡_, refl, sym, ap, ap₂, _∙_, subst}
 use mathlib.Core.Logic.{_⊎_, inl, inr}
-use mathlib.Core.Bool.{Bool, true, false, _&&_}
-use mathlib.Core.List.{List, [], _∷_, _++_}
-use mathlib.Core.Option.{Option, none, some}
+use mathlib.Core.Bool.{true, _&&_}
+use mathlib.Core.List.{List, [], _∷_}
+use mathlib.Core.Option.{Option, some}
 use Prim.Native.Nat.{ℕ, zero, suc, _+_, _-_, _%_, _^_, _≤_, _<_}
 use native.Mathlib.Numerals.{add-one}
 use native.Mathlib.Omega.{arith}
 use borrow.Author.Tests.{ltb-true}
-use lib.Dec.{ltb}
 use lib.ListN.{length, getD, set, drop, length-set, drop-of-length-le}
 use lib.Seq.{getD-set-same, getD-set-other}
 use Rattle.arith.specs.Word.{notOf, negOf}
@@ -16,10 +15,10 @@ use Rattle.simd.specs.Gates.{gateOf}
 use Rattle.simd.specs.declared.Gate.{Gate}
 use Rattle.expr.specs.declared.Token.{Token}
 use Rattle.expr.specs.declared.Token.the-variants.{Constant, Variable, Binary, Not, Neg, Bad}
-use Rattle.expr.specs.Formula.{tokenAt, tokens, Alg, step, run, only, whole, orElse, known, allKnown, isFormula, valueAlg, valueOf}
+use Rattle.expr.specs.Formula.{tokenAt, tokens, step, run, only, whole, orElse, known, allKnown, isFormula, valueAlg, valueOf}
 use Rattle.expr.proofs.Tokens.{tokens-length, tokens-next}
-use Rattle.expr.proofs.Machine.{none≢some, and-left, and-right, Passed, passed}
-use Rattle.expr.proofs.Trees.{whole-tree, Formed, formed}
+use Rattle.expr.proofs.Machine.{none≢some, and-left, and-right, passed}
+use Rattle.expr.proofs.Trees.{whole-tree, formed}
 
 -- the first n places of an array as a stack, the last of them on top
 unfoldable pub stackOf : List ℕ → ℕ → List ℕ

@@ -1,18 +1,18 @@
 -- One turn of the formula test: the test from here on, with the values counted so far, is the test of all. Assumes nothing.
-use mathlib.Core.Path.{_≡_, refl, sym, ap, _∙_}
+use mathlib.Core.Path.{_≡_, sym, ap, _∙_}
 use mathlib.Core.Bool.{Bool, true, false, _||_, or-true}
-use mathlib.Core.List.{List, [], _∷_}
+use mathlib.Core.List.{List, _∷_}
 use Prim.Native.Nat.{ℕ, _+_, _-_, _≤_, _<_}
 use native.Mathlib.Omega.{arith}
 use borrow.Author.Tests.{lt-ltb, le-ltb}
 use lib.Dec.{eqb, ltb}
-use lib.ListN.{length, drop, drop-of-length-le}
+use lib.ListN.{drop, drop-of-length-le}
 use Rattle.arith.specs.Refusal.{outsideOf}
 use Rattle.expr.specs.declared.Token.{Token}
 use Rattle.expr.specs.Formula.{tokenAt, tokens, known, isFormula}
 use Rattle.expr.specs.Span.{arity}
 use Rattle.expr.proofs.Tokens.{tokens-length, tokens-next}
-use Rattle.expr.proofs.Machine.{arity-le, passes, passes-unknown, passes-low, passes-ok, passes-end, formula-outside, formula-inside}
+use Rattle.expr.proofs.Machine.{passes, passes-unknown, passes-low, passes-ok, passes-end, formula-outside, formula-inside}
 
 -- the rest from place i, with `depth` values on the stack
 pub record Testing (nv count : ℕ) (ops operands : List ℕ) (depth i : ℕ) : Type 0 where

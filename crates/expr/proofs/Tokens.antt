@@ -1,19 +1,20 @@
 -- Laws of tokens and of how they are read. Assumes nothing.
 use mathlib.Core.Path.{_≡_, refl, sym, ap, ap₂, _∙_}
-use mathlib.Core.Bool.{Bool, true, false, cond, _&&_}
-use mathlib.Core.List.{List, [], _∷_, _++_}
+use mathlib.Core.Bool.{Bool, cond, _&&_}
+use mathlib.Core.List.{List, [], _∷_, _++_, map}
 use Prim.Native.Nat.{ℕ, zero, suc, _+_, _≤_, _<_}
 use native.Mathlib.Numerals.{add-one}
 use native.Mathlib.Omega.{arith}
 use borrow.Author.Tests.{lt-ltb, le-ltb}
-use lib.Dec.{ltb}
+use lib.Dec.{leb·suc-suc}
 use lib.ListN.{length, getD, take, drop, length-append, List·getD-append}
 use lib.Seq.{getD-at, drop-cons, take-all, take-append-le}
 use Rattle.arith.proofs.Remainders.{le-or-lt}
 use mathlib.Core.Logic.{_⊎_, inl, inr}
+use Rattle.simd.specs.declared.Gate.the-variants.{And, Or, Xor, Add, Mul}
 use Rattle.expr.specs.declared.Token.{Token}
 use Rattle.expr.specs.declared.Token.the-variants.{Constant, Variable, Binary, Not, Neg, Bad}
-use Rattle.expr.specs.Formula.{tokenOf, tokenAt, tokens}
+use Rattle.expr.specs.Formula.{tokenOf, opcodeOf, operandOf, tokenAt, tokens}
 
 -- ---- one token
 -- an operand that is not used and not 0
@@ -115,3 +116,34 @@ module _ (ops operands : List ℕ) where
   pub tokens-next : (n i : ℕ) (t : Token) → i < n → tokenAt ops operands i ≡ t → drop i (tokens n ops operands) ≡ t ∷ drop (i + 1) (tokens n ops operands)
   tokens-next n i t h e =
       tokens-drop n i h ∙ ap₂ (λ (x : Token) (j : ℕ). x ∷ drop j (tokens n ops operands)) e (sym (add-one i))
+
+-- ---- reading back what was written
+pub token-back : (t : Token) → tokenOf (opcodeOf t) (operandOf t) ≡ t
+unfolding tokenOf opcodeOf operandOf
+token-back (Constant k) = refl
+token-back (Variable i) = refl
+token-back (Binary And) = refl
+token-back (Binary Or) = refl
+token-back (Binary Xor) = refl
+token-back (Binary Add) = refl
+token-back (Binary Mul) = refl
+token-back Not = refl
+token-back Neg = refl
+token-back Bad = refl
+
+token-at-suc : (o k : ℕ) (ops operands : List ℕ) (i : ℕ) → tokenAt (o ∷ ops) (k ∷ operands) (suc i) ≡ tokenAt ops operands i
+unfolding tokenAt
+token-at-suc o k ops operands i =
+    ap₂ (λ (x y : Bool). cond (x && y) (tokenOf (getD ops i 0) (getD operands i 0)) Bad) (leb·suc-suc (suc i) (length ops)) (leb·suc-suc (suc i) (length operands))
+
+pub tokens-cons : (n o k : ℕ) (ops operands : List ℕ) → tokens (suc n) (o ∷ ops) (k ∷ operands) ≡ tokenOf o k ∷ tokens n ops operands
+unfolding tokens tokenAt
+tokens-cons zero o k ops operands = ap (λ (t : Token). t ∷ []) (token-in (o ∷ ops) (k ∷ operands) 0 (omega arith) (omega arith))
+tokens-cons (suc n) o k ops operands = ap₂ (λ (l : List Token) (t : Token). l ++ (t ∷ [])) (tokens-cons n o k ops operands) (token-at-suc o k ops operands n)
+
+pub tokens-back : (ts : List Token) (ops operands : List ℕ) → tokens (length ts) (map opcodeOf ts ++ ops) (map operandOf ts ++ operands) ≡ ts
+unfolding tokens map
+tokens-back [] ops operands = refl
+tokens-back (t ∷ ts) ops operands =
+    tokens-cons (length ts) (opcodeOf t) (operandOf t) (map opcodeOf ts ++ ops) (map operandOf ts ++ operands)
+    ∙ ap₂ (λ (x : Token) (l : List Token). x ∷ l) (token-back t) (tokens-back ts ops operands)

@@ -1,20 +1,19 @@
 -- What passes the test is a tree written out in postfix, and only such; every algebra reads it as its fold. Assumes nothing.
-use mathlib.Core.Path.{_≡_, refl, sym, ap, ap₂, _∙_, subst}
-use mathlib.Core.Bool.{Bool, true, false, _&&_, and-true}
+use mathlib.Core.Path.{_≡_, refl, sym, ap, ap₂, _∙_}
+use mathlib.Core.Bool.{Bool, true, _&&_, and-true}
 use mathlib.Core.List.{List, [], _∷_, _++_, append-assoc, append-nil}
 use mathlib.Core.Option.{Option, none, some}
-use Prim.Native.Nat.{ℕ, zero, suc, _+_, _≤_, _<_}
+use Prim.Native.Nat.{ℕ, zero, suc, _+_, _≤_}
 use native.Mathlib.Omega.{arith}
 use lib.Dec.{ltb}
 use lib.ListN.{length, length-append}
 use Rattle.arith.proofs.Refusals.{true-not-false}
-use Rattle.simd.specs.declared.Gate.{Gate}
 use Rattle.expr.specs.declared.Token.{Token}
 use Rattle.expr.specs.declared.Token.the-variants.{Constant, Variable, Binary, Not, Neg, Bad}
-use Rattle.expr.specs.Formula.{Alg, step, run, only, whole, orElse, Mark, markAlg, isSome, leavesOne, known, allKnown, isFormula}
+use Rattle.expr.specs.Formula.{Alg, step, run, only, whole, Mark, markAlg, isSome, leavesOne, known, allKnown, isFormula}
 use Rattle.expr.specs.Tree.{Tree, written, within, fold}
 use Rattle.expr.specs.Tree.Tree.{constant, variable, inverted, negated, gated}
-use Rattle.expr.proofs.Machine.{none≢some, and-left, and-right, and-both, marks, Passed, passed, passing, all-known-append}
+use Rattle.expr.proofs.Machine.{none≢some, marks, passed, passing, all-known-append}
 
 -- ---- a written tree is read as its fold, at every algebra
 module _ {A : Type 0} (m : Alg A) where

@@ -1,7 +1,7 @@
 -- The cost of a formula, and when one cost is better than another. Assumes nothing.
 use mathlib.Core.Bool.{Bool, true, false, cond, _&&_, _||_}
 use mathlib.Core.List.{List}
-use Prim.Native.Nat.{ℕ, _+_, _<_, _^_, max}
+use Prim.Native.Nat.{_+_, _<_, _^_, max}
 use lib.Dec.{eqb, ltb}
 use Rattle.simd.specs.declared.Gate.{Gate}
 use Rattle.simd.specs.declared.Gate.the-variants.{And, Or, Xor, Add, Mul}

@@ -32,6 +32,27 @@ tokenOf (suc (suc (suc (suc (suc (suc (suc zero))))))) k = plain Not k
 tokenOf (suc (suc (suc (suc (suc (suc (suc (suc zero)))))))) k = plain Neg k
 tokenOf (suc (suc (suc (suc (suc (suc (suc (suc (suc n))))))))) k = Bad
 
+-- the other way: the opcode and the operand of a token. 01, From heap ..: unused token places hold opcode 255 and operand 0
+unfoldable pub opcodeOf : Token → ℕ
+opcodeOf (Constant k) = 0
+opcodeOf (Variable i) = 1
+opcodeOf (Binary Add) = 2
+opcodeOf (Binary Mul) = 3
+opcodeOf (Binary And) = 4
+opcodeOf (Binary Or) = 5
+opcodeOf (Binary Xor) = 6
+opcodeOf Not = 7
+opcodeOf Neg = 8
+opcodeOf Bad = 255
+
+unfoldable pub operandOf : Token → ℕ
+operandOf (Constant k) = k
+operandOf (Variable i) = i
+operandOf (Binary g) = 0
+operandOf Not = 0
+operandOf Neg = 0
+operandOf Bad = 0
+
 -- the token at a place of the two parallel arrays; past the end of either there is none, which is `Bad` too
 unfoldable pub tokenAt : List ℕ → List ℕ → ℕ → Token
 unfolding tokenOf

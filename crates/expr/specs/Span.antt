@@ -3,7 +3,7 @@ use mathlib.Core.Path.{_≡_}
 use mathlib.Core.Bool.{true}
 use mathlib.Core.List.{List}
 use Prim.Native.Nat.{ℕ, zero, suc, _+_, _≤_}
-use lib.ListN.{length, drop}
+use lib.ListN.{length, getD, drop}
 use Rattle.expr.specs.declared.Token.{Token}
 use Rattle.expr.specs.declared.Token.the-variants.{Constant, Variable, Binary, Not, Neg, Bad}
 use Rattle.expr.specs.Formula.{tokenAt, tokens, leavesOne, isFormula}
@@ -23,6 +23,10 @@ unfolding arity tokenAt
 back ops operands zero need = zero
 back ops operands (suc i) zero = suc i
 back ops operands (suc i) (suc n) = back ops operands i (n + arity (tokenAt ops operands i))
+
+-- for each place up to `count`, where the formula that ends before it begins
+pub record Starts (ops operands starts : List ℕ) (count : ℕ) : Type 0 where
+  pub each : (k : ℕ) → k ≤ count → getD starts k 0 ≡ back ops operands k 1
 
 -- the tokens from `from` up to `to`
 unfoldable pub spanOf : List ℕ → List ℕ → ℕ → ℕ → List Token

@@ -6,10 +6,11 @@ use crate::Token;
 use simd::Gate;
 ghost use mathlib.Core.Path.{_≡_};
 ghost use mathlib.Core.Bool.{_||_};
-ghost use Prim.Native.Nat.{_≤_, max};
+ghost use Prim.Native.Nat.{_+_, _≤_, _<_, max};
+ghost use lib.ListN.{length};
 ghost use Rattle.expr.specs.Formula.{tokens, known, valueOf};
 ghost use Rattle.expr.specs.Cost.{leafInfo, underUnary, underGate, isNonlinear, infoUnary, infoGate, infoOf, Roomy};
-ghost use Rattle.expr.specs.Span.{arity, back, spanOf, Span, Evaluable};
+ghost use Rattle.expr.specs.Span.{arity, back, Starts, spanOf, Span, Evaluable};
 
 // Whether a token may stand in a formula over nv variables.
 pub fn is_known(t: Token, nv: u32) -> bool
@@ -74,26 +75,39 @@ pub fn eval_tokens(w: u32, count: usize, ops: &[u8], operands: &[u64], words: &[
     stack[0]
 }
 
-// Where the formula that ends before `end` begins.
-pub fn span_start(ops: &[u8], operands: &[u64], end: usize) -> usize
-    requires { ⌜ end ≤ 64 ⌝ }
-    ensures { λ r. ⌜ r ≡ back (now (ops .entry)) (now (operands .entry)) end 1 ⌝ }
+// For each place up to `count`, where the formula that ends before it begins. Found in one pass, so that the cost goes down without a search.
+pub fn span_starts(ops: &[u8], operands: &[u64], count: usize) -> [u8; 65]
+    requires { ⌜ count ≤ 64 ⌝ }
+    ensures { λ r. ⌜ Starts (now (ops .entry)) (now (operands .entry)) r count ⌝ }
 {
-    let mut i = end;
-    let mut need: usize = 1;
-    while 0 < i {
-        if need == 0 {
-            return i;
-        }
-        i -= 1;
-        need = need - 1 + takes(crate::token_at(ops, operands, i));
+    let mut starts = [0u8; MAX_TOKENS + 1];
+    let mut i: usize = 0;
+    while i < count {
+        let start = start_after(ops, operands, &starts, i);
+        i += 1;
+        starts[i] = start as u8;
     }
-    i
+    starts
+}
+
+// The same for the place after token i, from the starts up to it: a leaf begins where it stands, Not and Neg where their operand begins,
+// a gate where its left operand does.
+fn start_after(ops: &[u8], operands: &[u64], starts: &[u8], i: usize) -> usize
+    requires { ⌜ (i < length (now starts)) × Starts (now ops) (now operands) (now starts) i ⌝ }
+    ensures { λ r. ⌜ r ≡ back (now (ops .entry)) (now (operands .entry)) (i + 1) 1 ⌝ }
+{
+    let right = starts[i] as usize;
+    let left = starts[right] as usize;
+    match takes(crate::token_at(ops, operands, i)) {
+        0 => i,
+        1 => right,
+        _ => left,
+    }
 }
 
 // The cost of the formula that stands from `from` up to `to`, found by going down into its operands, each shorter than the whole.
-pub fn cost_span(ops: &[u8], operands: &[u64], from: usize, to: usize) -> CostInfo
-    requires { ⌜ Span (now ops) (now operands) from to ⌝ }
+pub fn cost_span(ops: &[u8], operands: &[u64], starts: &[u8], from: usize, to: usize) -> CostInfo
+    requires { ⌜ Span (now ops) (now operands) from to × ((to ≤ length (now starts)) × Starts (now ops) (now operands) (now starts) to) ⌝ }
     ensures { λ r. ⌜ r ≡ infoOf (spanOf (now (ops .entry)) (now (operands .entry)) from to) ⌝ }
 {
     let last = to - 1;
@@ -101,12 +115,12 @@ pub fn cost_span(ops: &[u8], operands: &[u64], from: usize, to: usize) -> CostIn
         Token::Constant(_) => CostInfo::leaf(false),
         Token::Variable(_) => CostInfo::leaf(true),
         Token::Binary(g) => {
-            let mid = span_start(ops, operands, last);
-            let a = cost_span(ops, operands, from, mid);
-            let b = cost_span(ops, operands, mid, last);
+            let mid = starts[last] as usize;
+            let a = cost_span(ops, operands, starts, from, mid);
+            let b = cost_span(ops, operands, starts, mid, last);
             a.under_gate(b, g)
         }
-        Token::Not | Token::Neg => cost_span(ops, operands, from, last).under_unary(),
+        Token::Not | Token::Neg => cost_span(ops, operands, starts, from, last).under_unary(),
         Token::Bad => CostInfo::leaf(false),
     }
 }

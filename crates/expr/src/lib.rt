@@ -152,7 +152,8 @@ pub fn compute_cost(nv: u32, count: usize, ops: &[u8], operands: &[u64]) -> Cost
         return cost_refused(4);
     }
     if is_formula(nv, count, ops, operands) {
-        let info = inner::cost_span(ops, operands, 0, count);
+        let starts = inner::span_starts(ops, operands, count);
+        let info = inner::cost_span(ops, operands, &starts, 0, count);
         let cost = info.cost;
         CostAnswer { refusal: 0, cost }
     } else {

@@ -4,7 +4,6 @@ use Prim.Native.Nat.{ℕ, _-_, _+_, _≤_, _<_}
 use borrow.Author.Needs.{needs}
 use borrow.Author.Tests.{not-true, not-false}
 use Rattle.expr.proofs.Testing.{Testing, test-few, test-many, test-start, test-end, test-unknown, test-low, test-next}
-use mathlib.Core.Path.{sym, _∙_, subst}
 use Rattle.expr.proofs.is_formula.Statement.{statement}
 use Rattle.expr.proofs.is_formula.Tie as tie
 
