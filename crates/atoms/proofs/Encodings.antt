@@ -1,7 +1,6 @@
 -- Laws of the five arrays: a part always has its stride's length, so that a bank with one atom replaced, or with one more, is the same arrays with one part put;
 -- and what was written is read back. Assumes nothing.
 use mathlib.Core.Path.{_≡_, refl, sym, ap, ap₂, _∙_}
-use mathlib.Core.Bool.{true}
 use mathlib.Core.List.{List, [], _∷_, _++_, map}
 use Prim.Native.Nat.{ℕ, zero, suc, _+_, _*_, _≤_, _<_}
 use native.Mathlib.Omega.{arith}
@@ -9,16 +8,13 @@ use lib.ListN.{length, getD, set, take, drop, length-append, length-map, length-
 use lib.Seq.{take-suc, take-length}
 use Rattle.arith.specs.Parts.{partAt, putPart, encode}
 use Rattle.arith.proofs.Parts.{getD-part, encode-part, encode-set, encode-add}
-use Rattle.arith.proofs.Refusals.{true-not-false}
-use Rattle.simd.specs.declared.Gate.the-variants.{And, Or, Xor, Add, Mul}
 use Rattle.expr.specs.declared.Token.{Token}
-use Rattle.expr.specs.declared.Token.the-variants.{Constant, Variable, Binary, Not, Neg, Bad}
+use Rattle.expr.specs.declared.Token.the-variants.{Bad}
 use Rattle.expr.specs.declared.Cost.{Cost}
-use Rattle.expr.specs.Formula.{tokenOf, tokenAt, tokens, known, allKnown, isFormula}
-use Rattle.expr.proofs.Tokens.{token-in}
-use Rattle.expr.proofs.Machine.{and-left, and-right, passed}
+use Rattle.expr.specs.Formula.{tokenOf, opcodeOf, operandOf, tokenAt, tokens}
+use Rattle.expr.proofs.Tokens.{token-in, token-back}
 use Rattle.atoms.specs.Bank.{Atom, noAtom}
-use Rattle.atoms.specs.Encoding.{opcodeOf, operandOf, padTo, lengthPart, opsPart, operandsPart, costNumbers, costPart, rowPart, Arrays, spread, written}
+use Rattle.atoms.specs.Encoding.{padTo, lengthPart, opsPart, operandsPart, costNumbers, costPart, rowPart, Arrays, spread, written}
 use Rattle.atoms.proofs.Lists.{getD-map}
 
 -- ---- padding
@@ -183,20 +179,6 @@ numbers-cost c d e = go (cc) (cc) (cc)
     go : c .size ≡ d .size → c .products ≡ d .products → c .depth ≡ d .depth → c ≡ d
     go p q r = λ i. record { size = p i; products = q i; depth = r i }
 
--- every token but `Bad` is told by its opcode and operand
-pub token-back : (t : Token) → (t ≡ Bad → ⊥) → tokenOf (opcodeOf t) (operandOf t) ≡ t
-unfolding tokenOf
-token-back (Constant k) n = refl
-token-back (Variable i) n = refl
-token-back (Binary And) n = refl
-token-back (Binary Or) n = refl
-token-back (Binary Xor) n = refl
-token-back (Binary Add) n = refl
-token-back (Binary Mul) n = refl
-token-back Not n = refl
-token-back Neg n = refl
-token-back Bad n = absurd (n refl)
-
 pad-map : (d : ℕ) (f : Token → ℕ) (ts : List Token) (k : ℕ) → length ts ≤ 6 → k < length ts → getD (padTo 6 d (map f ts)) k 0 ≡ f (getD ts k Bad)
 pad-map d f ts k h m =
     let e : length (map f ts) ≡ length ts = length-map ts f in
@@ -209,26 +191,16 @@ tokens-are ops operands ts at zero h = refl
 tokens-are ops operands ts at (suc n) h =
     ap₂ (λ (l : List Token) (t : Token). l ++ (t ∷ [])) (tokens-are ops operands ts at n (omega arith)) (at n (omega arith)) ∙ sym (take-suc ts n Bad (omega arith))
 
--- a formula of at most six tokens, none of them `Bad`, is read back from its parts
-pub form-back : (a : Atom) → length (a .form) ≤ 6 → ((k : ℕ) → k < length (a .form) → getD (a .form) k Bad ≡ Bad → ⊥) → tokens (length (a .form)) (opsPart a) (operandsPart a) ≡ a .form
+-- a formula of at most six tokens is read back from its parts
+pub form-back : (a : Atom) → length (a .form) ≤ 6 → tokens (length (a .form)) (opsPart a) (operandsPart a) ≡ a .form
 unfolding opsPart operandsPart
-form-back a h good = tokens-are (opsPart a) (operandsPart a) (a .form) at (length (a .form)) (omega arith) ∙ take-length (a .form)
+form-back a h = tokens-are (opsPart a) (operandsPart a) (a .form) at (length (a .form)) (omega arith) ∙ take-length (a .form)
   where
     at : (k : ℕ) → k < length (a .form) → tokenAt (opsPart a) (operandsPart a) k ≡ getD (a .form) k Bad
     at k m =
         token-in (opsPart a) (operandsPart a) k (omega (arith, ops-wide a)) (omega (arith, operands-wide a))
         ∙ ap₂ tokenOf (pad-map 255 opcodeOf (a .form) k h m) (pad-map 0 operandOf (a .form) k h m)
-        ∙ token-back (getD (a .form) k Bad) (good k m)
-
-known-not-bad : (nv : ℕ) (ts : List Token) → allKnown nv ts ≡ true → (k : ℕ) → k < length ts → getD ts k Bad ≡ Bad → ⊥
-unfolding allKnown known
-known-not-bad nv [] h k l e = omega arith
-known-not-bad nv (t ∷ ts) h zero l e = true-not-false (sym (and-left (known nv t) (allKnown nv ts) h) ∙ ap (known nv) e)
-known-not-bad nv (t ∷ ts) h (suc k) l e = known-not-bad nv ts (and-right (known nv t) (allKnown nv ts) h) k (omega arith) e
-
--- so is a formula of at most six tokens that passes the test: it has no `Bad`
-pub formula-back : (nv : ℕ) (a : Atom) → isFormula nv (a .form) ≡ true → length (a .form) ≤ 6 → tokens (length (a .form)) (opsPart a) (operandsPart a) ≡ a .form
-formula-back nv a h l = form-back a l (known-not-bad nv (a .form) (passed nv (a .form) h .all))
+        ∙ token-back (getD (a .form) k Bad)
 
 -- ---- slot k of the arrays is atom k of the bank
 module _ (bank : List Atom) (old : Arrays) (k : ℕ) (h : k < length bank) where

@@ -3,33 +3,9 @@ use mathlib.Core.List.{List, [], _∷_, _++_, map}
 use Prim.Native.Nat.{ℕ, zero, suc, _*_}
 use lib.ListN.{length, drop}
 use Rattle.arith.specs.Parts.{encode}
-use Rattle.simd.specs.declared.Gate.{Gate}
-use Rattle.simd.specs.declared.Gate.the-variants.{And, Or, Xor, Add, Mul}
-use Rattle.expr.specs.declared.Token.{Token}
-use Rattle.expr.specs.declared.Token.the-variants.{Constant, Variable, Binary, Not, Neg, Bad}
 use Rattle.expr.specs.declared.Cost.{Cost}
+use Rattle.expr.specs.Formula.{opcodeOf, operandOf}
 use Rattle.atoms.specs.Bank.{Atom}
-
--- 01, From heap ..: 0 Constant, 1 Variable, 2 Add, 3 Mul, 4 And, 5 Or, 6 Xor, 7 Not, 8 Neg; 255 stands in unused places
-abbrev pub opcodeOf : Token → ℕ
-opcodeOf (Constant k) = 0
-opcodeOf (Variable i) = 1
-opcodeOf (Binary Add) = 2
-opcodeOf (Binary Mul) = 3
-opcodeOf (Binary And) = 4
-opcodeOf (Binary Or) = 5
-opcodeOf (Binary Xor) = 6
-opcodeOf Not = 7
-opcodeOf Neg = 8
-opcodeOf Bad = 255
-
-abbrev pub operandOf : Token → ℕ
-operandOf (Constant k) = k
-operandOf (Variable i) = i
-operandOf (Binary g) = 0
-operandOf Not = 0
-operandOf Neg = 0
-operandOf Bad = 0
 
 -- the first s of l, with d in the places that l does not have: always s elements
 unfoldable pub padTo : ℕ → ℕ → List ℕ → List ℕ

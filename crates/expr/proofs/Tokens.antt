@@ -119,7 +119,7 @@ module _ (ops operands : List ℕ) where
 
 -- ---- reading back what was written
 pub token-back : (t : Token) → tokenOf (opcodeOf t) (operandOf t) ≡ t
-unfolding tokenOf opcodeOf operandOf
+unfolding tokenOf
 token-back (Constant k) = refl
 token-back (Variable i) = refl
 token-back (Binary And) = refl

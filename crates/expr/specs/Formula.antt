@@ -33,7 +33,7 @@ tokenOf (suc (suc (suc (suc (suc (suc (suc (suc zero)))))))) k = plain Neg k
 tokenOf (suc (suc (suc (suc (suc (suc (suc (suc (suc n))))))))) k = Bad
 
 -- the other way: the opcode and the operand of a token. 01, From heap ..: unused token places hold opcode 255 and operand 0
-unfoldable pub opcodeOf : Token → ℕ
+abbrev pub opcodeOf : Token → ℕ
 opcodeOf (Constant k) = 0
 opcodeOf (Variable i) = 1
 opcodeOf (Binary Add) = 2
@@ -45,7 +45,7 @@ opcodeOf Not = 7
 opcodeOf Neg = 8
 opcodeOf Bad = 255
 
-unfoldable pub operandOf : Token → ℕ
+abbrev pub operandOf : Token → ℕ
 operandOf (Constant k) = k
 operandOf (Variable i) = i
 operandOf (Binary g) = 0
