@@ -2,6 +2,7 @@
 use crate::formulas;
 use simd::Gate;
 use simd::Match;
+use simd::RowAnswer;
 ghost use Prim.Native.Nat.{_+_, _≤_};
 ghost use lib.ListN.{length};
 
@@ -47,12 +48,13 @@ fn row_at(line: &[u64], base: usize) -> [u64; 16]
     row
 }
 
-fn row_same(row: [u64; 16], line: &[u64], base: usize) -> bool
-    requires { ⌜ base + 16 ≤ length (now line) ⌝ }
+// Whether the words stand in the line from `base` on.
+fn words_same(words: &[u64], line: &[u64], base: usize) -> bool
+    requires { ⌜ base + length (now words) ≤ length (now line) ⌝ }
 {
     let mut i: usize = 0;
-    while i < 16 {
-        if row[i] != line[base + i] {
+    while i < words.len() {
+        if words[i] != line[base + i] {
             return false;
         }
         i += 1;
@@ -105,14 +107,8 @@ fn points_same(line: &[u64]) -> bool {
 fn point_same(p: probe::Point, line: &[u64], base: usize) -> bool
     requires { ⌜ base + 6 ≤ length (now line) ⌝ }
 {
-    let mut i: usize = 0;
-    while i < 6 {
-        if p.words[i] != line[base + i] {
-            return false;
-        }
-        i += 1;
-    }
-    true
+    let words = p.words;
+    words_same(&words, line, base)
 }
 
 // 3, a row, F
@@ -121,6 +117,17 @@ fn fingerprint_same(line: &[u64]) -> bool {
         return false;
     }
     probe::fingerprint(row_at(line, 1)) == line[17]
+}
+
+// The refusal at place 3, and the answer's row from place 36 on.
+fn row_answer_is(r: RowAnswer, line: &[u64]) -> bool
+    requires { ⌜ 52 ≤ length (now line) ⌝ }
+{
+    if r.refusal as u64 != line[3] {
+        return false;
+    }
+    let row = r.row;
+    words_same(&row, line, 36)
 }
 
 // 4 GATE W REFUSAL, rows a, b and the answer
@@ -137,11 +144,7 @@ fn gate_same(line: &[u64]) -> bool {
         gate_of(line[1]),
         narrow(line[2]),
     );
-    if r.refusal as u64 != line[3] {
-        return false;
-    }
-    let row = r.row;
-    row_same(row, line, 36)
+    row_answer_is(r, line)
 }
 
 // 5 GATE W REFUSAL, rows target, a and the answer
@@ -158,11 +161,7 @@ fn residual_same(line: &[u64]) -> bool {
         gate_of(line[1]),
         narrow(line[2]),
     );
-    if r.refusal as u64 != line[3] {
-        return false;
-    }
-    let row = r.row;
-    row_same(row, line, 36)
+    row_answer_is(r, line)
 }
 
 // 6 GATE W REFUSAL YES, rows a, b and target

@@ -1,63 +1,26 @@
--- `compare::check::point_same` is safe: the place stays below 6. Assumes nothing.
-use Prim.Native.Nat.{_-_, _≤_}
+-- `compare::check::point_same` is safe: a point has six words. Assumes nothing.
+use mathlib.Core.Path.{_≡_}
+use Prim.Native.Nat.{_-_}
+use native.Mathlib.Omega.{arith}
 use borrow.Author.Needs.{needs}
-use Prim.Native.Nat.{_-_, _≤_}
+use lib.ListN.{length}
+use mathlib.Core.Path.{_≡_}
+use Prim.Native.Nat.{_-_}
+use lib.ListN.{length}
 use Rattle.compare.proofs.check.point_same.Statement.{statement}
 use Rattle.compare.proofs.check.point_same.Tie as tie
 
-abbrev Inv-loop : tie.InvT-loop
-Inv-loop line base p i₀ i = i ≤ 6
+slice-aggregate-words-same : tie.Need-slice-aggregate-words-same
+slice-aggregate-words-same c = search needs
 
-abbrev μ-loop : tie.MeasureT-loop
-μ-loop line base p i₀ i = 6 - i
+words-same-requires : tie.Need-words-same-requires
+words-same-requires c κs =
+    let s = c .before .before .before in
+    let long : length (s .args .p .words) ≡ 6 = search needs in
+    omega (arith, long, s .pre)
 
-loop-holds : tie.Need-loop-holds Inv-loop μ-loop
-loop-holds c = search needs
-
-mul-if1 : tie.Need-mul-if1 Inv-loop μ-loop
-mul-if1 c = search needs
-
-element-copy-out-if1 : tie.Need-element-copy-out-if1 Inv-loop μ-loop
-element-copy-out-if1 c = search needs
-
-add-if1 : tie.Need-add-if1 Inv-loop μ-loop
-add-if1 c = search needs
-
-mul-if1-2 : tie.Need-mul-if1-2 Inv-loop μ-loop
-mul-if1-2 c = search needs
-
-shared-slice-read-if1 : tie.Need-shared-slice-read-if1 Inv-loop μ-loop
-shared-slice-read-if1 c = search needs
-
-returns : tie.Need-returns Inv-loop μ-loop
+returns : tie.Need-returns
 returns c = search needs
 
-add-i : tie.Need-add-i Inv-loop μ-loop
-add-i c = search needs
-
-loop-less : tie.Need-loop-less Inv-loop μ-loop
-loop-less c = search needs
-
-loop-again : tie.Need-loop-again Inv-loop μ-loop
-loop-again c = search needs
-
-returns-2 : tie.Need-returns-2 Inv-loop μ-loop
-returns-2 c = search needs
-
 pub point-same-spec : {M : Type 1} → statement M
-point-same-spec =
-    tie.close
-    (tie.spec
-    Inv-loop
-    μ-loop
-    loop-holds
-    mul-if1
-    element-copy-out-if1
-    add-if1
-    mul-if1-2
-    shared-slice-read-if1
-    returns
-    add-i
-    loop-less
-    loop-again
-    returns-2)
+point-same-spec = tie.close (tie.spec slice-aggregate-words-same words-same-requires returns)
