@@ -40,7 +40,7 @@ formOf w Done = T.Constant 0 ∷ []
 -- ---- the place after it
 -- the first difference from i and j on: 01, Bank: per i ≠ j
 abbrev pub skipped : ℕ → ℕ → ℕ
-skipped i j = cond (eqb j i) (j + 1) j
+skipped i j = cond (eqb i j) (j + 1) j
 
 unfoldable pub differenceFrom : ℕ → ℕ → ℕ → Cursor
 differenceFrom nv i j = cond (ltb (skipped i j) nv) (Difference i (skipped i j)) (cond (ltb (i + 1) nv) (Difference (i + 1) 0) Done)
@@ -79,7 +79,7 @@ pub record WithinPair (nv i j k : ℕ) : Type 0 where
 pub record WithinDifference (nv i j : ℕ) : Type 0 where
   pub left : i < nv
   pub right : j < nv
-  pub differ : eqb j i ≡ false
+  pub differ : eqb i j ≡ false
 
 abbrev pub Within : ℕ → Cursor → Type 0
 Within nv (Constant k) = k < 4
@@ -89,10 +89,9 @@ Within nv (Difference i j) = WithinDifference nv i j
 Within nv Done = Unit {0}
 
 -- what the calls at a place ask for
-pub record At (nv w : ℕ) (c : Cursor) : Type 0 where
+pub record Stands (nv : ℕ) (c : Cursor) : Type 0 where
   pub least : 1 ≤ nv
   pub most : nv ≤ 6
-  pub width : w ≤ 64
   pub within : Within nv c
 
 -- ---- all formulas from a place on

@@ -22,7 +22,7 @@ ghost use Rattle.atoms.specs.Bank.{atomOf};
 ghost use Rattle.atoms.specs.Encoding.{opcodeOf};
 ghost use Rattle.entry.specs.declared.Cursor.the-variants as Place;
 ghost use Rattle.entry.specs.Entry.{entryOf, leafOf, unaryToken, unaryOf, unaryRow, Longer, Joined, GateText, IsConstant, Extends, UnderUnary, Joins, UnderGate};
-ghost use Rattle.entry.specs.Cursor.{At, constantAt, variableAt, gateAt, formOf, skipped, differenceFrom, nextOf};
+ghost use Rattle.entry.specs.Cursor.{Stands, constantAt, variableAt, gateAt, formOf, skipped, differenceFrom, nextOf};
 ghost use Rattle.entry.specs.Seeding.{WithSeed};
 
 // ---- atoms
@@ -83,8 +83,9 @@ fn with_token(f: Formula, opcode: u8) -> Formula
     let len = f.len;
     let at = len as usize;
     let mut ops = f.ops;
-    let operands = f.operands;
+    let mut operands = f.operands;
     ops[at] = opcode;
+    operands[at] = 0;
     Formula {
         len: len + 1,
         ops,
@@ -180,26 +181,26 @@ fn gate_text(a: Formula, b: Formula, g: Gate) -> Formula
     with_token(both, gate_opcode(g))
 }
 
-fn gate_cost(a: Cost, b: Cost, g: Gate, a_varies: bool, b_varies: bool) -> Cost
+fn gate_cost(a: Cost, b: Cost, g: Gate, left: bool, right: bool) -> Cost
     requires { ⌜ Roomy a × Roomy b ⌝ }
-    ensures { λ r. ⌜ r ≡ underGate (isNonlinear g a_varies b_varies) a b ⌝ }
+    ensures { λ r. ⌜ r ≡ underGate (isNonlinear g left right) a b ⌝ }
 {
     let x = CostInfo {
         cost: a,
-        varies: a_varies,
+        varies: left,
     };
     let y = CostInfo {
         cost: b,
-        varies: b_varies,
+        varies: right,
     };
     let info = x.under_gate(y, g);
     info.cost
 }
 
 // The gate of two atoms' formulas. The two marks say whether a variable stands in each: the cost depends on it.
-pub fn under_gate(a: Entry, b: Entry, g: Gate, a_varies: bool, b_varies: bool, w: u32) -> Entry
+pub fn under_gate(a: Entry, b: Entry, g: Gate, left: bool, right: bool, w: u32) -> Entry
     requires { ⌜ Joins w a b ⌝ }
-    ensures { λ r. ⌜ UnderGate w g a_varies b_varies a b r ⌝ }
+    ensures { λ r. ⌜ UnderGate w g left right a b r ⌝ }
 {
     let a_text = a.text;
     let b_text = b.text;
@@ -208,7 +209,7 @@ pub fn under_gate(a: Entry, b: Entry, g: Gate, a_varies: bool, b_varies: bool, w
     let a_row = a.row;
     let b_row = b.row;
     let text = gate_text(a_text, b_text, g);
-    let cost = gate_cost(a_cost, b_cost, g, a_varies, b_varies);
+    let cost = gate_cost(a_cost, b_cost, g, left, right);
     let row = simd::inner::gate_row(a_row, b_row, g, w);
     Entry { text, cost, row }
 }
@@ -273,7 +274,7 @@ fn difference_at(w: u32, points: [Point; 16], i: u32, j: u32) -> Entry
 
 // The atom of the formula at a place.
 pub fn entry_at(at: Cursor, nv: u32, w: u32, points: [Point; 16]) -> Entry
-    requires { ⌜ At nv w at ⌝ }
+    requires { ⌜ (w ≤ 64) × Stands nv at ⌝ }
     ensures { λ r. ⌜ r ≡ entryOf (atomOf w points (formOf w at)) ⌝ }
 {
     match at {
@@ -305,7 +306,7 @@ fn skip(i: u32, j: u32) -> u32
     requires { ⌜ j ≤ 6 ⌝ }
     ensures { λ r. ⌜ r ≡ skipped i j ⌝ }
 {
-    if j == i { j + 1 } else { j }
+    if i == j { j + 1 } else { j }
 }
 
 fn next_variable(nv: u32, i: u32, k: u32) -> Cursor
@@ -339,7 +340,7 @@ fn next_pair(nv: u32, i: u32, j: u32, k: u32) -> Cursor
 
 // The place after it.
 pub fn next(at: Cursor, nv: u32) -> Cursor
-    requires { ⌜ At nv 0 at ⌝ }
+    requires { ⌜ Stands nv at ⌝ }
     ensures { λ r. ⌜ r ≡ nextOf nv at ⌝ }
 {
     match at {

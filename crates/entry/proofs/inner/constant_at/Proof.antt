@@ -7,23 +7,23 @@ use Rattle.entry.proofs.inner.constant_at.Lts as lts
 use Rattle.arith.proofs.bitmask.Reads as bitmask-reads
 use Rattle.entry.proofs.inner.constant.Reads as constant-reads
 
--- src/inner.rt:235:9
+-- src/inner.rt:236:9
 constant-requires : tie.Need-constant-requires
 constant-requires c κs = search needs
 
--- src/inner.rt:237:21
+-- src/inner.rt:238:21
 bitmask-requires : tie.Need-bitmask-requires
 bitmask-requires c κs = search needs
 
--- src/inner.rt:237:9
+-- src/inner.rt:238:9
 constant-requires-2 : tie.Need-constant-requires-2
 constant-requires-2 c κs = search needs
 
--- src/inner.rt:230:1
+-- src/inner.rt:231:1
 returns : tie.Need-returns
 returns c = search needs
 
--- src/inner.rt:230:1
+-- src/inner.rt:231:1
 returns-2 : tie.Need-returns-2
 returns-2 c = search needs
 

@@ -8,71 +8,71 @@ use Rattle.entry.proofs.inner.difference_from.Reads as difference-from-
 use Rattle.entry.proofs.inner.next_pair.Reads as next-pair-reads
 use Rattle.entry.proofs.inner.next_variable.Reads as next-variable-reads
 
--- src/inner.rt:346:26
+-- src/inner.rt:347:26
 enum-known-at : tie.Need-enum-known-at
 enum-known-at c = search needs
 
--- src/inner.rt:347:16
+-- src/inner.rt:348:16
 add-if1 : tie.Need-add-if1
 add-if1 c = search needs
 
--- src/inner.rt:348:34
+-- src/inner.rt:349:34
 add-t15 : tie.Need-add-t15
 add-t15 c = search needs
 
--- src/inner.rt:353:26
+-- src/inner.rt:354:26
 enum-known-at-2 : tie.Need-enum-known-at-2
 enum-known-at-2 c = search needs
 
--- src/inner.rt:353:35
+-- src/inner.rt:354:35
 next-variable-requires : tie.Need-next-variable-requires
 next-variable-requires c κs = search needs
 
--- src/inner.rt:354:22
+-- src/inner.rt:355:22
 enum-known-at-3 : tie.Need-enum-known-at-3
 enum-known-at-3 c = search needs
 
--- src/inner.rt:354:34
+-- src/inner.rt:355:34
 next-pair-requires : tie.Need-next-pair-requires
 next-pair-requires c κs = search needs
 
--- src/inner.rt:355:28
+-- src/inner.rt:356:28
 enum-known-at-4 : tie.Need-enum-known-at-4
 enum-known-at-4 c = search needs
 
--- src/inner.rt:355:60
+-- src/inner.rt:356:60
 add-difference-from : tie.Need-add-difference-from
 add-difference-from c = search needs
 
--- src/inner.rt:355:37
+-- src/inner.rt:356:37
 difference-from-requires : tie.Need-difference-from-requires
 difference-from-requires c κs = search needs
 
--- src/inner.rt:356:25
+-- src/inner.rt:357:25
 enum-told : tie.Need-enum-told
 enum-told c = search needs
 
--- src/inner.rt:341:1
+-- src/inner.rt:342:1
 returns : tie.Need-returns
 returns c = search needs
 
--- src/inner.rt:341:1
+-- src/inner.rt:342:1
 returns-2 : tie.Need-returns-2
 returns-2 c = search needs
 
--- src/inner.rt:341:1
+-- src/inner.rt:342:1
 returns-3 : tie.Need-returns-3
 returns-3 c = search needs
 
--- src/inner.rt:341:1
+-- src/inner.rt:342:1
 returns-4 : tie.Need-returns-4
 returns-4 c = search needs
 
--- src/inner.rt:341:1
+-- src/inner.rt:342:1
 returns-5 : tie.Need-returns-5
 returns-5 c = search needs
 
--- src/inner.rt:341:1
+-- src/inner.rt:342:1
 returns-6 : tie.Need-returns-6
 returns-6 c = search needs
 

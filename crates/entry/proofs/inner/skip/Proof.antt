@@ -5,15 +5,15 @@ use Rattle.entry.proofs.inner.skip.Tie as tie
 use Rattle.entry.proofs.inner.skip.Reads as reads
 use Rattle.entry.proofs.inner.skip.Lts as lts
 
--- src/inner.rt:308:17
+-- src/inner.rt:309:17
 add-result : tie.Need-add-result
 add-result c = search needs
 
--- src/inner.rt:304:1
+-- src/inner.rt:305:1
 returns : tie.Need-returns
 returns c = search needs
 
--- src/inner.rt:304:1
+-- src/inner.rt:305:1
 returns-2 : tie.Need-returns-2
 returns-2 c = search needs
 

@@ -7,27 +7,27 @@ use Rattle.entry.proofs.inner.unary_lane.Lts as lts
 use Rattle.arith.proofs.mod_neg.Reads as mod-neg-reads
 use Rattle.arith.proofs.mod_not.Reads as mod-not-reads
 
--- src/inner.rt:131:23
+-- src/inner.rt:132:23
 enum-told : tie.Need-enum-told
 enum-told c = search needs
 
--- src/inner.rt:131:23
+-- src/inner.rt:132:23
 mod-neg-requires : tie.Need-mod-neg-requires
 mod-neg-requires c κs = search needs
 
--- src/inner.rt:132:23
+-- src/inner.rt:133:23
 enum-told-2 : tie.Need-enum-told-2
 enum-told-2 c = search needs
 
--- src/inner.rt:132:23
+-- src/inner.rt:133:23
 mod-not-requires : tie.Need-mod-not-requires
 mod-not-requires c κs = search needs
 
--- src/inner.rt:126:1
+-- src/inner.rt:127:1
 returns : tie.Need-returns
 returns c = search needs
 
--- src/inner.rt:126:1
+-- src/inner.rt:127:1
 returns-2 : tie.Need-returns-2
 returns-2 c = search needs
 
