@@ -2,9 +2,12 @@
 use mathlib.Core.Path.{_≡_, refl, sym, ap, ap₂, _∙_, subst}
 use mathlib.Core.Bool.{Bool, true, false}
 use mathlib.Core.List.{List, [], _∷_, _++_, map, zipWith, append-assoc}
-use Prim.Native.Nat.{ℕ, zero, suc, _%_, _^_, _<_}
+use Prim.Native.Nat.{ℕ, zero, suc, _%_, _^_, _≤_, _<_}
 use native.Mathlib.Omega.{arith}
-use lib.ListN.{length, getD, replicate}
+use lib.ListN.{length, getD, replicate, length-map}
+use Rattle.arith.specs.Word.{modulus, notOf, negOf}
+use Rattle.arith.proofs.Remainders.{modulus-is}
+use Rattle.arith.proofs.Fill.{Filled, filled-all}
 use Rattle.simd.specs.Gates.{gateOf, gateRow}
 use Rattle.simd.specs.declared.Gate.{Gate}
 use Rattle.expr.specs.declared.Token.{Token}
@@ -16,6 +19,7 @@ use Rattle.expr.specs.Cost.{leafCost, leafInfo, underUnary, underGate, isNonlin
 use Rattle.expr.proofs.Formulas.{value-constant, value-variable, value-not, value-neg, value-gate, info-constant, info-variable, info-not, info-neg, info-gate}
 use Rattle.probe.specs.declared.Point.{Point}
 use Rattle.probe.specs.FormulaRow.{rowOf}
+use Rattle.probe.proofs.FormulaRows.{length-rowOf, getD-rowOf}
 use Rattle.atoms.specs.Bank.{Atom, atomOf}
 use Rattle.atoms.specs.Encoding.{opcodeOf, operandOf, padTo, opsPart, operandsPart}
 use Rattle.entry.specs.declared.Formula.{Formula}
@@ -69,11 +73,36 @@ variable-is w i points row r er e =
     (ap (λ (z : Declared.Entry). z .cost) e ∙ sym (ap (λ (z : CostInfo). z .cost) (info-variable i)))
     (ap (λ (z : Declared.Entry). z .row) e ∙ er)
 
+module _ (w i : ℕ) (points : List Point) where
+  pub variable-word : (d : Point) (k r : ℕ) → w ≤ 64 → k < length points → r ≡ getD (getD points k d .words) i 0 % modulus w → r ≡ getD (rowOf w points (Variable i ∷ [])) k 0
+  variable-word d k r h l e =
+      e ∙ ap (λ (m : ℕ). getD (getD points k d .words) i 0 % m) (modulus-is w h) ∙ sym (value-variable w (getD points k d .words) i) ∙ sym (getD-rowOf w points (Variable i ∷ []) d k l)
+
+  pub variable-row-is : (out : List ℕ) (k : ℕ) → length out ≡ length points → length out ≤ k → Filled (λ (j : ℕ). getD (rowOf w points (Variable i ∷ [])) j 0) out k
+      → out ≡ rowOf w points (Variable i ∷ [])
+  variable-row-is out k e h filled =
+      filled-all (λ (j : ℕ). getD (rowOf w points (Variable i ∷ [])) j 0) out (rowOf w points (Variable i ∷ [])) k
+      (e ∙ sym (length-rowOf w points (Variable i ∷ []))) h filled (λ j lt. refl)
+
 -- ---- Neg and Not
 pub getD-map : (f : ℕ → ℕ) (l : List ℕ) (k : ℕ) → k < length l → getD (map f l) k 0 ≡ f (getD l k 0)
 getD-map f [] k h = absurd (omega arith)
 getD-map f (x ∷ l) zero h = refl
 getD-map f (x ∷ l) (suc k) h = getD-map f l k (omega arith)
+
+pub unary-row-is : (u : Unary) (w : ℕ) (row out : List ℕ) (k : ℕ) → length out ≡ length row → length out ≤ k → Filled (λ (j : ℕ). unaryOf u w (getD row j 0)) out k → out ≡ unaryRow u w row
+unfolding unaryRow
+unary-row-is u w row out k e h filled =
+    filled-all (λ (j : ℕ). unaryOf u w (getD row j 0)) out (map (unaryOf u w) row) k
+    (e ∙ sym (length-map row (unaryOf u w))) h filled (λ j lt. getD-map (unaryOf u w) row j (omega (arith, length-map row (unaryOf u w))))
+
+pub neg-lane : (u : Unary) (w v r : ℕ) → w ≤ 64 → u ≡ U.Neg → r ≡ negOf (modulus w) v → r ≡ unaryOf u w v
+unfolding unaryOf
+neg-lane u w v r h e q = q ∙ ap (λ (m : ℕ). negOf m v) (modulus-is w h) ∙ ap (λ (z : Unary). unaryOf z w v) (sym e)
+
+pub not-lane : (u : Unary) (w v r : ℕ) → w ≤ 64 → u ≡ U.Not → r ≡ notOf (modulus w) v → r ≡ unaryOf u w v
+unfolding unaryOf
+not-lane u w v r h e q = q ∙ ap (λ (m : ℕ). notOf m v) (modulus-is w h) ∙ ap (λ (z : Unary). unaryOf z w v) (sym e)
 
 pub unary-operand : (u : Unary) → operandOf (unaryToken u) ≡ 0
 unary-operand U.Neg = refl

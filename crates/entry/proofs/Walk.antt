@@ -12,7 +12,7 @@ use lib.ListN.{length, drop}
 use borrow.Author.Tests.{eqb-true, ne-eqb, lt-ltb, le-ltb}
 use Rattle.arith.proofs.Remainders.{le-or-lt}
 use Rattle.arith.proofs.Refusals.{true-not-false}
-use Rattle.simd.specs.declared.Gate.the-variants.{Add}
+use Rattle.simd.specs.declared.Gate.the-variants.{Add, Mul}
 use Rattle.expr.specs.declared.Token.{Token}
 use Rattle.expr.specs.declared.Token.the-variants as T
 use Rattle.atoms.specs.Stock.{countUp, constants, ofVariable, gatesOf, differenceOf, stock}
@@ -229,3 +229,40 @@ stock-few (suc (suc (suc (suc zero)))) w h = omega arith
 stock-few (suc (suc (suc (suc (suc zero))))) w h = omega arith
 stock-few (suc (suc (suc (suc (suc (suc zero)))))) w h = omega arith
 stock-few (suc (suc (suc (suc (suc (suc (suc nv))))))) w h = absurd (omega arith)
+
+-- ---- what the code's tests tell
+pub gate-last : (k : ℕ) → (k ≡ 0 → ⊥) → (k ≡ 1 → ⊥) → (k ≡ 2 → ⊥) → (k ≡ 3 → ⊥) → Mul ≡ gateAt k
+gate-last zero a b c d = absurd (a refl)
+gate-last (suc zero) a b c d = absurd (b refl)
+gate-last (suc (suc zero)) a b c d = absurd (c refl)
+gate-last (suc (suc (suc zero))) a b c d = absurd (d refl)
+gate-last (suc (suc (suc (suc k)))) a b c d = refl
+
+module _ (nv i j s : ℕ) (e : s ≡ skipped i j) where
+  pub difference-here : s < nv → Difference i s ≡ differenceFrom nv i j
+  unfolding differenceFrom
+  difference-here h = rw (lt-ltb s nv h) at (ap (λ (z : ℕ). cond (ltb z nv) (Difference i z) (cond (ltb (i + 1) nv) (Difference (i + 1) 0) Done)) e)
+
+  pub difference-next : nv ≤ s → i + 1 < nv → Difference (i + 1) 0 ≡ differenceFrom nv i j
+  unfolding differenceFrom
+  difference-next h l = rw (le-ltb s nv h, lt-ltb (i + 1) nv l) at (ap (λ (z : ℕ). cond (ltb z nv) (Difference i z) (cond (ltb (i + 1) nv) (Difference (i + 1) 0) Done)) e)
+
+  pub difference-none : nv ≤ s → nv ≤ i + 1 → Done ≡ differenceFrom nv i j
+  unfolding differenceFrom
+  difference-none h l = rw (le-ltb s nv h, le-ltb (i + 1) nv l) at (ap (λ (z : ℕ). cond (ltb z nv) (Difference i z) (cond (ltb (i + 1) nv) (Difference (i + 1) 0) Done)) e)
+
+-- an arm of a match on a place
+pub next-at : {at c : Cursor} (nv : ℕ) (r : Cursor) → at ≡ c → r ≡ nextOf nv c → r ≡ nextOf nv at
+next-at nv r e h = h ∙ ap (nextOf nv) (sym e)
+
+pub within-constant : {at : Cursor} (nv : ℕ) {k : ℕ} → at ≡ Constant k → Within nv at → k < 4
+within-constant nv e h = subst (λ (z : Cursor). Within nv z) e h
+
+pub within-variable : {at : Cursor} (nv : ℕ) {i k : ℕ} → at ≡ Variable i k → Within nv at → WithinVariable nv i k
+within-variable nv e h = subst (λ (z : Cursor). Within nv z) e h
+
+pub within-pair : {at : Cursor} (nv : ℕ) {i j k : ℕ} → at ≡ Pair i j k → Within nv at → WithinPair nv i j k
+within-pair nv e h = subst (λ (z : Cursor). Within nv z) e h
+
+pub within-difference : {at : Cursor} (nv : ℕ) {i j : ℕ} → at ≡ Difference i j → Within nv at → WithinDifference nv i j
+within-difference nv e h = subst (λ (z : Cursor). Within nv z) e h

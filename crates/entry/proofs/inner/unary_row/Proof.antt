@@ -1,56 +1,56 @@
+-- `entry::inner::unary_row` meets its contract: the places passed hold what the token gives there. Assumes nothing.
+use mathlib.Core.Path.{_≡_, refl}
+use Prim.Native.Nat.{ℕ, _-_, _≤_}
+use lib.ListN.{length, getD, length-set}
+use Rattle.arith.proofs.Fill.{Filled, filled-more}
+use Rattle.entry.specs.Entry.{unaryOf}
+use Rattle.entry.proofs.Making.{unary-row-is}
 use borrow.Author.Needs.{needs}
 use native.Mathlib.Omega.{arith}
 use Rattle.entry.proofs.inner.unary_row.Statement.{statement}
 use Rattle.entry.proofs.inner.unary_row.Tie as tie
-use Rattle.entry.proofs.inner.unary_row.Reads as reads
-use Rattle.entry.proofs.inner.unary_row.Lts as lts
-use Rattle.entry.proofs.inner.unary_lane.Reads as unary-lane-reads
 
 abbrev Inv-loop : tie.InvT-loop
-Inv-loop u w row out₀ k₀ out k = ?
+Inv-loop u w row out₀ k₀ out k =
+    (k ≤ 16) × ((length out ≡ 16) × Filled (λ (j : ℕ). unaryOf u w (getD row j 0)) out k)
 
 abbrev μ-loop : tie.MeasureT-loop
-μ-loop u w row out₀ k₀ out k = ?
+μ-loop u w row out₀ k₀ out k = 16 - k
 
--- src/inner.rt:143:5
 loop-holds : tie.Need-loop-holds Inv-loop μ-loop
-loop-holds c = search needs
+loop-holds c = (search needs, (refl, λ j h. absurd (omega arith)))
 
--- src/inner.rt:144:29
 mul-unary-lane : tie.Need-mul-unary-lane Inv-loop μ-loop
 mul-unary-lane c = search needs
 
--- src/inner.rt:144:29
 array-read-unary-lane : tie.Need-array-read-unary-lane Inv-loop μ-loop
 array-read-unary-lane c = search needs
 
--- src/inner.rt:144:18
 unary-lane-requires : tie.Need-unary-lane-requires Inv-loop μ-loop
 unary-lane-requires c κs = search needs
 
--- src/inner.rt:144:9
 mul-out : tie.Need-mul-out Inv-loop μ-loop
 mul-out c = search needs
 
--- src/inner.rt:144:9
 array-write-out : tie.Need-array-write-out Inv-loop μ-loop
 array-write-out c = search needs
 
--- src/inner.rt:145:9
 add-k : tie.Need-add-k Inv-loop μ-loop
 add-k c = search needs
 
--- src/inner.rt:143:5
 loop-less : tie.Need-loop-less Inv-loop μ-loop
 loop-less c = search needs
 
--- src/inner.rt:143:5
 loop-again : tie.Need-loop-again Inv-loop μ-loop
-loop-again c = search needs
+loop-again c =
+    let l = c .before .before .loop in
+    (omega arith, (simp length-set (omega arith), filled-more _ (l .out) (l .k) (c .unary-lane .result) (omega arith) (l .inv .1 .1) (c .unary-lane .ensures)))
 
--- src/inner.rt:137:1
 returns : tie.Need-returns Inv-loop μ-loop
-returns c = search needs
+returns c =
+    let s = c .before .before .args in
+    let l = c .before .loop in
+    unary-row-is (s .u) (s .w) (s .t1) (l .out) (l .k) (search needs) (omega arith) (l .inv .1 .1)
 
 pub unary-row-spec : {M : Type 1} → statement M
 unary-row-spec =

@@ -1,37 +1,32 @@
-use native.Mathlib.Omega.{arith}
+-- `entry::inner::with_seed` meets its contract: a zero is passed over, and so is every word once enough are there. Assumes nothing.
+use mathlib.Core.Path.{refl}
+use Rattle.entry.proofs.SeedLaws.{seed-zero, seed-full, seed-taken}
 use borrow.Author.Needs.{needs}
 use Rattle.entry.proofs.inner.with_seed.Statement.{statement}
 use Rattle.entry.proofs.inner.with_seed.Tie as tie
-use Rattle.entry.proofs.inner.with_seed.Reads as reads
-use Rattle.entry.proofs.inner.with_seed.Lts as lts
 
--- src/inner.rt:370:9
 returns : tie.Need-returns
-returns c = search needs
+returns c = let s = c .before in seed-zero (s .args .s) (s .args .v) (s .args .most) (s .pre .0) (c .if1 .taken)
 
--- src/inner.rt:373:18
 cast-at : tie.Need-cast-at
 cast-at c = search needs
 
--- src/inner.rt:375:9
 mul-words : tie.Need-mul-words
 mul-words c = search needs
 
--- src/inner.rt:375:9
 array-write-words : tie.Need-array-write-words
 array-write-words c = search needs
 
--- src/inner.rt:377:20
 add-t11 : tie.Need-add-t11
 add-t11 c = search needs
 
--- src/inner.rt:376:9
 returns-2 : tie.Need-returns-2
-returns-2 c = search needs
+returns-2 c =
+    let s = c .before .before .before in
+    seed-taken (s .args .s) _ (s .args .v) (s .args .most) (c .before .if2 .taken) (search needs) (c .before .before .if1 .left) refl refl
 
--- src/inner.rt:364:1
 returns-3 : tie.Need-returns-3
-returns-3 c = search needs
+returns-3 c = let s = c .before .before in seed-full (s .args .s) (s .args .v) (s .args .most) (s .pre .0) (c .if2 .left)
 
 pub with-seed-spec : {M : Type 1} → statement M
 with-seed-spec =

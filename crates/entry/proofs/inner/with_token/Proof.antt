@@ -1,33 +1,29 @@
-use native.Mathlib.Omega.{arith}
+-- `entry::inner::with_token` meets its contract: the first free place of both arrays is written. Assumes nothing.
+use mathlib.Core.Path.{refl}
+use Rattle.entry.proofs.Texts.{longer}
 use borrow.Author.Needs.{needs}
 use Rattle.entry.proofs.inner.with_token.Statement.{statement}
 use Rattle.entry.proofs.inner.with_token.Tie as tie
-use Rattle.entry.proofs.inner.with_token.Reads as reads
-use Rattle.entry.proofs.inner.with_token.Lts as lts
 
--- src/inner.rt:84:14
 cast-at : tie.Need-cast-at
 cast-at c = search needs
 
--- src/inner.rt:87:5
 array-write-ops : tie.Need-array-write-ops
 array-write-ops c = search needs
 
--- src/inner.rt:88:5
 mul-operands : tie.Need-mul-operands
 mul-operands c = search needs
 
--- src/inner.rt:88:5
 array-write-operands : tie.Need-array-write-operands
 array-write-operands c = search needs
 
--- src/inner.rt:90:14
 add-t12 : tie.Need-add-t12
 add-t12 c = search needs
 
--- src/inner.rt:79:1
 returns : tie.Need-returns
-returns c = search needs
+returns c =
+    let s = c .before .before .args in
+    longer (s .f) _ (s .opcode) (c .before .before .pre) refl refl refl
 
 pub with-token-spec : {M : Type 1} → statement M
 with-token-spec =
