@@ -1,8 +1,9 @@
 -- Why the atoms that are made are those of their formulas: text, cost and row part by part. Assumes nothing.
 use mathlib.Core.Path.{_≡_, refl, sym, ap, ap₂, _∙_, subst}
-use mathlib.Core.Bool.{Bool, true, false}
+use mathlib.Core.Bool.{Bool, true, false, cond}
 use mathlib.Core.List.{List, [], _∷_, _++_, map, zipWith, append-assoc}
-use Prim.Native.Nat.{ℕ, zero, suc, _%_, _^_, _≤_, _<_}
+use Prim.Native.Nat.{ℕ, zero, suc, _+_, _-_, _%_, _^_, _≤_, _<_}
+use borrow.Author.Tests.{ne-eqb, lt-ltb, le-ltb}
 use native.Mathlib.Omega.{arith}
 use lib.ListN.{length, getD, replicate, length-map}
 use Rattle.arith.specs.Word.{modulus, notOf, negOf}
@@ -16,7 +17,7 @@ use Rattle.expr.specs.declared.Cost.{Cost}
 use Rattle.expr.specs.declared.CostInfo.{CostInfo}
 use Rattle.expr.specs.Formula.{isFormula, valueOf}
 use Rattle.expr.specs.Cost.{leafCost, leafInfo, underUnary, underGate, isNonlinear, infoUnary, infoGate, infoOf, costOf, Roomy}
-use Rattle.expr.proofs.Formulas.{value-constant, value-variable, value-not, value-neg, value-gate, info-constant, info-variable, info-not, info-neg, info-gate}
+use Rattle.expr.proofs.Formulas.{value-constant, value-variable, value-not, value-neg, value-gate, info-constant, info-variable, info-not, info-neg, info-gate, cost-roomy, variable-passes, neg-passes}
 use Rattle.probe.specs.declared.Point.{Point}
 use Rattle.probe.specs.FormulaRow.{rowOf}
 use Rattle.probe.proofs.FormulaRows.{length-rowOf, getD-rowOf}
@@ -26,7 +27,8 @@ use Rattle.entry.specs.declared.Formula.{Formula}
 use Rattle.entry.specs.declared.Unary.{Unary}
 use Rattle.entry.specs.declared.Unary.the-variants as U
 use Rattle.entry.specs.declared.Entry as Declared
-use Rattle.entry.specs.Entry.{entryOf, textOf, leafOf, unaryToken, unaryOf, unaryRow, IsConstant, Longer, Joined, GateText, UnderUnary, UnderGate}
+use Rattle.entry.specs.Entry.{entryOf, textOf, leafOf, unaryToken, unaryOf, unaryRow, IsConstant, Longer, Joined, GateText, Extends, UnderUnary, Joins, UnderGate}
+use Rattle.entry.specs.Cursor.{constantAt, variableAt, gateAt}
 
 -- ---- an atom's parts
 module _ (w : ℕ) (points : List Point) (ts : List Token) where
@@ -159,3 +161,55 @@ under-gate-is w g x y a b r text cost row = record {
       (cost ∙ cost-gate nv ts us f k g x y (a .cost) (b .cost) ex ey (entry-cost w points ts ea) (entry-cost w points us eb))
       (row ∙ (λ i. gateRow g w (entry-row w points ts ea i) (entry-row w points us eb i)) ∙ row-gate nv ts us f k w points g);
 }
+
+-- ---- what the makers ask for holds of every small formula's atom
+module _ (w nv : ℕ) (points : List Point) (fits : w ≤ 64) where
+  entry-len : (ts : List Token) {e : Declared.Entry} → e ≡ entryOf (atomOf w points ts) → e .text .len ≡ length ts
+  entry-len ts h = ap (λ (x : Formula). x .len) (entry-text w points ts h)
+
+  entry-roomy : (ts : List Token) → isFormula nv ts ≡ true → {e : Declared.Entry} → e ≡ entryOf (atomOf w points ts) → Roomy (e .cost)
+  entry-roomy ts f h = subst Roomy (sym (entry-cost w points ts h)) (cost-roomy nv ts f)
+
+  pub extends : (ts : List Token) → isFormula nv ts ≡ true → length ts < 6 → {e : Declared.Entry} → e ≡ entryOf (atomOf w points ts) → Extends w e
+  extends ts f l h = record { width = fits; room = omega (arith, entry-len ts h); cost = entry-roomy ts f h }
+
+  pub joins : (ts us : List Token) → isFormula nv ts ≡ true → isFormula nv us ≡ true → length ts + length us < 6
+      → {a b : Declared.Entry} → a ≡ entryOf (atomOf w points ts) → b ≡ entryOf (atomOf w points us) → Joins w a b
+  joins ts us f k l ha hb = record {
+    width = fits;
+    room = omega (arith, entry-len ts ha, entry-len us hb);
+    left = entry-roomy ts f ha;
+    right = entry-roomy us k hb;
+  }
+
+-- ---- the formulas of the stock
+pub variable-varies : (i : ℕ) → infoOf (Variable i ∷ []) .varies ≡ true
+variable-varies i = ap (λ (z : CostInfo). z .varies) (info-variable i)
+
+pub minus-passes : (i : ℕ) → i < 6 → isFormula 6 (Variable i ∷ (Neg ∷ [])) ≡ true
+minus-passes i h = neg-passes 6 (Variable i ∷ []) (variable-passes 6 i h) (omega arith)
+
+pub minus-varies : (i : ℕ) → i < 6 → infoOf (Variable i ∷ (Neg ∷ [])) .varies ≡ true
+minus-varies i h = ap (λ (z : CostInfo). z .varies) (info-neg 6 (Variable i ∷ []) (variable-passes 6 i h)) ∙ variable-varies i
+
+pub entry-form : (w : ℕ) (points : List Point) {ts us : List Token} {r : Declared.Entry} → r ≡ entryOf (atomOf w points ts) → ts ≡ us → r ≡ entryOf (atomOf w points us)
+entry-form w points h e = h ∙ ap (λ (z : List Token). entryOf (atomOf w points z)) e
+
+pub constant-low : (w k : ℕ) {r : Declared.Entry} → k < 3 → IsConstant w k r → IsConstant w (constantAt w k) r
+constant-low w k {r} h p = subst (λ (v : ℕ). IsConstant w v r) (sym (ap (λ (b : Bool). cond b k (2 ^ w - 1)) (lt-ltb k 3 h))) p
+
+pub constant-high : (w k v : ℕ) {r : Declared.Entry} → w ≤ 64 → 3 ≤ k → v ≡ modulus w - 1 → IsConstant w v r → IsConstant w (constantAt w k) r
+constant-high w k v {r} l h e p =
+    subst (λ (x : ℕ). IsConstant w x r) (e ∙ ap (λ (m : ℕ). m - 1) (modulus-is w l) ∙ sym (ap (λ (b : Bool). cond b k (2 ^ w - 1)) (le-ltb k 3 h))) p
+
+pub variable-0 : (i k : ℕ) → k ≡ 0 → _≡_ {A = List Token} (Variable i ∷ []) (variableAt i k)
+variable-0 i k e = sym (ap (variableAt i) e)
+
+pub variable-1 : (i k : ℕ) → k ≡ 1 → _≡_ {A = List Token} (Variable i ∷ (Neg ∷ [])) (variableAt i k)
+variable-1 i k e = sym (ap (variableAt i) e)
+
+pub variable-2 : (i k : ℕ) → (k ≡ 0 → ⊥) → (k ≡ 1 → ⊥) → _≡_ {A = List Token} (Variable i ∷ (Not ∷ [])) (variableAt i k)
+variable-2 i k e f = rw (ne-eqb k 0 e, ne-eqb k 1 f)
+
+pub pair-form : (i j k : ℕ) (g : Gate) → g ≡ gateAt k → _≡_ {A = List Token} (Variable i ∷ (Variable j ∷ (Binary g ∷ []))) (Variable i ∷ (Variable j ∷ (Binary (gateAt k) ∷ [])))
+pair-form i j k g e = ap (λ (z : Gate). Variable i ∷ (Variable j ∷ (Binary z ∷ []))) e

@@ -12,6 +12,10 @@ use Rattle.entry.specs.declared.Seeds.{Seeds}
 use Rattle.entry.specs.Seeding.{seeded, AreSeeds, WithSeed}
 
 -- ---- the OR
+pub or-none : (l : List ℕ) (k : ℕ) → length l ≤ k → 0 ≡ orAll (drop k l)
+unfolding orAll
+or-none l k h = sym (ap orAll (drop-of-length-le l h))
+
 pub or-more : (l : List ℕ) (k all : ℕ) → k < length l → all ≡ orAll (drop (suc k) l) → bitOr (getD l k 0) all ≡ orAll (drop k l)
 unfolding orAll
 or-more l k all h e = ap (bitOr (getD l k 0)) e ∙ sym (ap orAll (drop-cons l k 0 h))

@@ -239,17 +239,23 @@ gate-last (suc (suc (suc zero))) a b c d = absurd (d refl)
 gate-last (suc (suc (suc (suc k)))) a b c d = refl
 
 module _ (nv i j s : ℕ) (e : s ≡ skipped i j) where
-  pub difference-here : s < nv → Difference i s ≡ differenceFrom nv i j
+  abbrev chosen : Cursor
+  chosen = cond (ltb s nv) (Difference i s) (cond (ltb (i + 1) nv) (Difference (i + 1) 0) Done)
+
+  chosen-is : chosen ≡ differenceFrom nv i j
   unfolding differenceFrom
-  difference-here h = rw (lt-ltb s nv h) at (ap (λ (z : ℕ). cond (ltb z nv) (Difference i z) (cond (ltb (i + 1) nv) (Difference (i + 1) 0) Done)) e)
+  chosen-is = ap (λ (z : ℕ). cond (ltb z nv) (Difference i z) (cond (ltb (i + 1) nv) (Difference (i + 1) 0) Done)) e
+
+  pub difference-here : s < nv → Difference i s ≡ differenceFrom nv i j
+  difference-here h = sym (ap (λ (b : Bool). cond b (Difference i s) (cond (ltb (i + 1) nv) (Difference (i + 1) 0) Done)) (lt-ltb s nv h)) ∙ chosen-is
 
   pub difference-next : nv ≤ s → i + 1 < nv → Difference (i + 1) 0 ≡ differenceFrom nv i j
-  unfolding differenceFrom
-  difference-next h l = rw (le-ltb s nv h, lt-ltb (i + 1) nv l) at (ap (λ (z : ℕ). cond (ltb z nv) (Difference i z) (cond (ltb (i + 1) nv) (Difference (i + 1) 0) Done)) e)
+  difference-next h l =
+      sym (λ k. cond (le-ltb s nv h k) (Difference i s) (cond (lt-ltb (i + 1) nv l k) (Difference (i + 1) 0) Done)) ∙ chosen-is
 
   pub difference-none : nv ≤ s → nv ≤ i + 1 → Done ≡ differenceFrom nv i j
-  unfolding differenceFrom
-  difference-none h l = rw (le-ltb s nv h, le-ltb (i + 1) nv l) at (ap (λ (z : ℕ). cond (ltb z nv) (Difference i z) (cond (ltb (i + 1) nv) (Difference (i + 1) 0) Done)) e)
+  difference-none h l =
+      sym (λ k. cond (le-ltb s nv h k) (Difference i s) (cond (le-ltb (i + 1) nv l k) (Difference (i + 1) 0) Done)) ∙ chosen-is
 
 -- an arm of a match on a place
 pub next-at : {at c : Cursor} (nv : ℕ) (r : Cursor) → at ≡ c → r ≡ nextOf nv c → r ≡ nextOf nv at

@@ -1,61 +1,55 @@
+-- `entry::seeds_of` meets its contract: what is left to take from here on gives the seeds. Assumes nothing.
+use mathlib.Core.Path.{refl}
+use Prim.Native.Nat.{_-_, _≤_}
+use Rattle.entry.proofs.SeedLaws.{Seeding, seeding-first, seeding-more, seeding-done}
 use borrow.Author.Needs.{needs}
 use native.Mathlib.Omega.{arith}
 use Rattle.entry.proofs.seeds_of.Statement.{statement}
 use Rattle.entry.proofs.seeds_of.Tie as tie
-use Rattle.entry.proofs.seeds_of.Reads as reads
-use Rattle.entry.proofs.seeds_of.Lts as lts
-use Rattle.entry.proofs.inner.with_seed.Reads as with-seed-reads
-use Rattle.entry.proofs.or_all.Reads as or-all-reads
 
 abbrev Inv-loop : tie.InvT-loop
-Inv-loop target s₀ most i₀ s i = ?
+Inv-loop target s₀ most i₀ s i = (i ≤ 16) × Seeding target s most i
 
 abbrev μ-loop : tie.MeasureT-loop
-μ-loop target s₀ most i₀ s i = ?
+μ-loop target s₀ most i₀ s i = 16 - i
 
--- src/lib.rt:80:40
 or-all-requires : tie.Need-or-all-requires Inv-loop μ-loop
 or-all-requires c κs = search needs
 
--- src/lib.rt:80:9
 with-seed-requires : tie.Need-with-seed-requires Inv-loop μ-loop
 with-seed-requires c κs = search needs
 
--- src/lib.rt:81:16
 add-most : tie.Need-add-most Inv-loop μ-loop
-add-most c = search needs
+add-most c = omega (arith, c .before .with-seed .ensures .few)
 
--- src/lib.rt:83:5
 loop-holds : tie.Need-loop-holds Inv-loop μ-loop
-loop-holds c = search needs
+loop-holds c =
+    let s = c .before .before .before .args in
+    (search needs, seeding-first (s .t1) _ (c .before .with-seed .result) _ _ refl (c .before .before .or-all .ensures) (c .before .with-seed .ensures) refl)
 
--- src/lib.rt:84:33
 mul-with-seed : tie.Need-mul-with-seed Inv-loop μ-loop
 mul-with-seed c = search needs
 
--- src/lib.rt:84:33
 array-read-with-seed : tie.Need-array-read-with-seed Inv-loop μ-loop
 array-read-with-seed c = search needs
 
--- src/lib.rt:84:9
 with-seed-requires-2 : tie.Need-with-seed-requires-2 Inv-loop μ-loop
-with-seed-requires-2 c κs = search needs
+with-seed-requires-2 c κs = let l = c .before .loop in (l .inv .1 .few, l .inv .1 .limit)
 
--- src/lib.rt:85:9
 add-i : tie.Need-add-i Inv-loop μ-loop
 add-i c = search needs
 
--- src/lib.rt:83:5
 loop-less : tie.Need-loop-less Inv-loop μ-loop
 loop-less c = search needs
 
--- src/lib.rt:83:5
 loop-again : tie.Need-loop-again Inv-loop μ-loop
-loop-again c = search needs
+loop-again c =
+    let l = c .before .before .loop in
+    let s = c .before .before .before .before .before .before .args in
+    (omega arith, seeding-more (s .t1) (l .s) _ _ (l .i) (search needs) (l .inv .1) (c .with-seed2 .ensures))
 
--- src/lib.rt:73:1
 returns : tie.Need-returns Inv-loop μ-loop
-returns c = search needs
+returns c = let l = c .before .loop in seeding-done (c .before .before .before .before .before .args .t1) (l .s) _ (l .i) (search needs) (l .inv .1)
 
 pub seeds-of-spec : {M : Type 1} → statement M
 seeds-of-spec =

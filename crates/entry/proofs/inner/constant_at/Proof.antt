@@ -1,31 +1,25 @@
-use native.Mathlib.Omega.{arith}
+-- `entry::inner::constant_at` meets its contract, by the test. Assumes nothing.
+use Rattle.entry.proofs.Making.{constant-low, constant-high}
 use borrow.Author.Needs.{needs}
 use Rattle.entry.proofs.inner.constant_at.Statement.{statement}
 use Rattle.entry.proofs.inner.constant_at.Tie as tie
-use Rattle.entry.proofs.inner.constant_at.Reads as reads
-use Rattle.entry.proofs.inner.constant_at.Lts as lts
-use Rattle.arith.proofs.bitmask.Reads as bitmask-reads
-use Rattle.entry.proofs.inner.constant.Reads as constant-reads
 
--- src/inner.rt:236:9
 constant-requires : tie.Need-constant-requires
 constant-requires c κs = search needs
 
--- src/inner.rt:238:21
 bitmask-requires : tie.Need-bitmask-requires
 bitmask-requires c κs = search needs
 
--- src/inner.rt:238:9
 constant-requires-2 : tie.Need-constant-requires-2
 constant-requires-2 c κs = search needs
 
--- src/inner.rt:231:1
 returns : tie.Need-returns
-returns c = search needs
+returns c = let s = c .before .before .args in constant-low (s .w) (s .k) (c .before .if1 .taken) (c .constant .ensures)
 
--- src/inner.rt:231:1
 returns-2 : tie.Need-returns-2
-returns-2 c = search needs
+returns-2 c =
+    let s = c .before .before .before in
+    constant-high (s .args .w) (s .args .k) _ (s .pre) (c .before .before .if1 .left) (c .before .bitmask .ensures) (c .constant2 .ensures)
 
 pub constant-at-spec : {M : Type 1} → statement M
 constant-at-spec =

@@ -1,79 +1,81 @@
+-- `entry::inner::entry_at` meets its contract, place by place. Assumes nothing.
+use mathlib.Core.Path.{sym, ap, _∙_}
+use Rattle.entry.specs.Cursor.{formOf}
+use Rattle.entry.proofs.Making.{entry-form, pair-form}
+use Rattle.entry.proofs.Walk.{within-variable, within-pair, within-difference}
 use native.Mathlib.Omega.{arith}
 use borrow.Author.Needs.{needs}
 use Rattle.entry.proofs.inner.entry_at.Statement.{statement}
 use Rattle.entry.proofs.inner.entry_at.Tie as tie
-use Rattle.entry.proofs.inner.entry_at.Reads as reads
-use Rattle.entry.proofs.inner.entry_at.Lts as lts
-use Rattle.entry.proofs.inner.constant.Reads as constant-reads
-use Rattle.entry.proofs.inner.constant_at.Reads as constant-at-reads
-use Rattle.entry.proofs.inner.difference_at.Reads as difference-at-reads
-use Rattle.entry.proofs.inner.gate_at.Reads as gate-at-reads
-use Rattle.entry.proofs.inner.pair_at.Reads as pair-at-reads
-use Rattle.entry.proofs.inner.variable_at.Reads as variable-at-reads
 
--- src/inner.rt:281:26
 enum-known-at : tie.Need-enum-known-at
 enum-known-at c = search needs
 
--- src/inner.rt:281:32
 constant-at-requires : tie.Need-constant-at-requires
 constant-at-requires c κs = search needs
 
--- src/inner.rt:282:26
 enum-known-at-2 : tie.Need-enum-known-at-2
 enum-known-at-2 c = search needs
 
--- src/inner.rt:282:35
 variable-at-requires : tie.Need-variable-at-requires
-variable-at-requires c κs = search needs
+variable-at-requires c κs =
+    let v = within-variable (c .before .before .before .args .nv) (c .before .at2 .given .1) (c .before .before .before .pre .1 .within) in
+    (c .before .before .before .pre .0, omega (arith, v .variable, c .before .before .before .pre .1 .most))
 
--- src/inner.rt:283:22
 enum-known-at-3 : tie.Need-enum-known-at-3
 enum-known-at-3 c = search needs
 
--- src/inner.rt:283:59
 gate-at-requires : tie.Need-gate-at-requires
 gate-at-requires c κs = search needs
 
--- src/inner.rt:283:34
 pair-at-requires : tie.Need-pair-at-requires
-pair-at-requires c κs = search needs
+pair-at-requires c κs =
+    let v = within-pair (c .before .before .before .before .args .nv) (c .before .before .at3 .given .1) (c .before .before .before .before .pre .1 .within) in
+    (c .before .before .before .before .pre .0, (omega (arith, v .order, v .variable, c .before .before .before .before .pre .1 .most), omega (arith, v .variable, c .before .before .before .before .pre .1 .most)))
 
--- src/inner.rt:284:28
 enum-known-at-4 : tie.Need-enum-known-at-4
 enum-known-at-4 c = search needs
 
--- src/inner.rt:284:37
 difference-at-requires : tie.Need-difference-at-requires
-difference-at-requires c κs = search needs
+difference-at-requires c κs =
+    let v = within-difference (c .before .before .before .args .nv) (c .before .at4 .given .1) (c .before .before .before .pre .1 .within) in
+    (c .before .before .before .pre .0, (omega (arith, v .left, c .before .before .before .pre .1 .most), omega (arith, v .right, c .before .before .before .pre .1 .most)))
 
--- src/inner.rt:285:25
 enum-told : tie.Need-enum-told
 enum-told c = search needs
 
--- src/inner.rt:285:25
 constant-requires : tie.Need-constant-requires
 constant-requires c κs = search needs
 
--- src/inner.rt:276:1
 returns : tie.Need-returns
-returns c = search needs
+unfolding formOf
+returns c =
+    let s = c .before .before .before .before .args in
+    entry-form (s .w) (s .points) (c .constant-at .ensures .is (s .points) (search needs)) (ap (formOf (s .w)) (sym (c .before .before .at .given .1)))
 
--- src/inner.rt:276:1
 returns-2 : tie.Need-returns-2
-returns-2 c = search needs
+unfolding formOf
+returns-2 c =
+    let s = c .before .before .before .before .args in
+    entry-form (s .w) (s .points) (c .variable-at .ensures) (ap (formOf (s .w)) (sym (c .before .before .at2 .given .1)))
 
--- src/inner.rt:276:1
 returns-3 : tie.Need-returns-3
-returns-3 c = search needs
+unfolding formOf
+returns-3 c =
+    let s = c .before .before .before .before .before .args in
+    entry-form (s .w) (s .points) (c .pair-at .ensures) (pair-form _ _ (c .before .before .before .at3 .given .0 .1 .1 .0) _ (c .before .gate-at .ensures) ∙ ap (formOf (s .w)) (sym (c .before .before .before .at3 .given .1)))
 
--- src/inner.rt:276:1
 returns-4 : tie.Need-returns-4
-returns-4 c = search needs
+unfolding formOf
+returns-4 c =
+    let s = c .before .before .before .before .args in
+    entry-form (s .w) (s .points) (c .difference-at .ensures) (ap (formOf (s .w)) (sym (c .before .before .at4 .given .1)))
 
--- src/inner.rt:276:1
 returns-5 : tie.Need-returns-5
-returns-5 c = search needs
+unfolding formOf
+returns-5 c =
+    let s = c .before .before .before .args in
+    entry-form (s .w) (s .points) (c .constant .ensures .is (s .points) (search needs)) (ap (formOf (s .w)) (sym (c .before .enum-told .given .1)))
 
 pub entry-at-spec : {M : Type 1} → statement M
 entry-at-spec =

@@ -1,28 +1,20 @@
-use native.Mathlib.Omega.{arith}
+-- `entry::inner::gate_text` meets its contract: both texts, and the gate's token after them. Assumes nothing.
+use Rattle.entry.proofs.Making.{gate-text-is}
 use borrow.Author.Needs.{needs}
 use Rattle.entry.proofs.inner.gate_text.Statement.{statement}
 use Rattle.entry.proofs.inner.gate_text.Tie as tie
-use Rattle.entry.proofs.inner.gate_text.Reads as reads
-use Rattle.entry.proofs.inner.gate_text.Lts as lts
-use Rattle.entry.proofs.inner.gate_opcode.Reads as gate-opcode-reads
-use Rattle.entry.proofs.inner.joined.Reads as joined-reads
-use Rattle.entry.proofs.inner.with_token.Reads as with-token-reads
 
--- src/inner.rt:180:9
 joined-requires : tie.Need-joined-requires
 joined-requires c κs = search needs
 
--- src/inner.rt:181:22
 gate-opcode-requires : tie.Need-gate-opcode-requires
 gate-opcode-requires c κs = search needs
 
--- src/inner.rt:181:5
 with-token-requires : tie.Need-with-token-requires
 with-token-requires c κs = search needs
 
--- src/inner.rt:176:1
 returns : tie.Need-returns
-returns c = search needs
+returns c = let s = c .before .before .before .args in gate-text-is (s .g) (s .a) (s .b) _ _ _ (c .before .gate-opcode .ensures) (c .before .before .joined .ensures) (c .with-token .ensures)
 
 pub gate-text-spec : {M : Type 1} → statement M
 gate-text-spec =

@@ -1,35 +1,42 @@
+-- `entry::inner::variable_at` meets its contract, form by form. Assumes nothing.
+use mathlib.Core.List.{[], _∷_}
+use Rattle.expr.specs.declared.Token.the-variants.{Variable}
+use Rattle.expr.proofs.Formulas.{variable-passes}
+use Rattle.entry.proofs.Making.{extends, entry-form, variable-0, variable-1, variable-2}
 use native.Mathlib.Omega.{arith}
 use borrow.Author.Needs.{needs}
 use Rattle.entry.proofs.inner.variable_at.Statement.{statement}
 use Rattle.entry.proofs.inner.variable_at.Tie as tie
-use Rattle.entry.proofs.inner.variable_at.Reads as reads
-use Rattle.entry.proofs.inner.variable_at.Lts as lts
-use Rattle.entry.proofs.inner.under_unary.Reads as under-unary-reads
-use Rattle.entry.proofs.inner.variable.Reads as variable-reads
 
--- src/inner.rt:246:9
 variable-requires : tie.Need-variable-requires
 variable-requires c κs = search needs
 
--- src/inner.rt:248:9
 returns : tie.Need-returns
-returns c = search needs
+returns c = let s = c .before .before .args in entry-form (s .w) (s .points) (c .before .variable .ensures) (variable-0 (s .i) (s .k) (c .if1 .taken))
 
--- src/inner.rt:251:9
 under-unary-requires : tie.Need-under-unary-requires
-under-unary-requires c κs = search needs
+under-unary-requires c κs =
+    let s = c .before .before .before in
+    extends (s .args .w) 6 (s .args .points) (s .pre .0) (Variable (s .args .i) ∷ []) (variable-passes 6 (s .args .i) (s .pre .1)) (omega arith) (c .before .before .variable .ensures)
 
--- src/inner.rt:251:9
 returns-2 : tie.Need-returns-2
-returns-2 c = search needs
+returns-2 c =
+    let s = c .before .before .before .before in
+    entry-form (s .args .w) (s .args .points)
+    (c .under-unary .ensures .is 6 (s .args .points) (Variable (s .args .i) ∷ []) (variable-passes 6 (s .args .i) (s .pre .1)) (c .before .before .before .variable .ensures))
+    (variable-1 (s .args .i) (s .args .k) (c .before .if2 .taken))
 
--- src/inner.rt:253:5
 under-unary-requires-2 : tie.Need-under-unary-requires-2
-under-unary-requires-2 c κs = search needs
+under-unary-requires-2 c κs =
+    let s = c .before .before .before in
+    extends (s .args .w) 6 (s .args .points) (s .pre .0) (Variable (s .args .i) ∷ []) (variable-passes 6 (s .args .i) (s .pre .1)) (omega arith) (c .before .before .variable .ensures)
 
--- src/inner.rt:242:1
 returns-3 : tie.Need-returns-3
-returns-3 c = search needs
+returns-3 c =
+    let s = c .before .before .before .before in
+    entry-form (s .args .w) (s .args .points)
+    (c .under-unary2 .ensures .is 6 (s .args .points) (Variable (s .args .i) ∷ []) (variable-passes 6 (s .args .i) (s .pre .1)) (c .before .before .before .variable .ensures))
+    (variable-2 (s .args .i) (s .args .k) (c .before .before .if1 .left) (c .before .if2 .left))
 
 pub variable-at-spec : {M : Type 1} → statement M
 variable-at-spec =

@@ -57,7 +57,7 @@ loop-again c =
       (
         simp length-set (omega arith),
         filled-more _ (l .row) (l .k) (c .reduce .result) (omega arith) (l .inv .1 .1)
-        (variable-word (s .args .w) (s .args .i) (s .args .t1) _ (l .k) (c .reduce .result) (s .pre .0) (search needs) (c .reduce .ensures)),
+        (variable-word (s .args .w) (s .args .i) (s .args .t2) _ (l .k) (c .reduce .result) (s .pre .0) (search needs) (c .reduce .ensures)),
       ),
     )
 
@@ -65,7 +65,7 @@ returns : tie.Need-returns Inv-loop μ-loop
 returns c =
     let s = c .before .before .args in
     let l = c .before .loop in
-    variable-row-is (s .w) (s .i) (s .t1) (l .row) (l .k) (search needs) (omega arith) (l .inv .1 .1)
+    variable-row-is (s .w) (s .i) (s .t2) (l .row) (l .k) (search needs) (omega arith) (l .inv .1 .1)
 
 pub variable-row-spec : {M : Type 1} → statement M
 variable-row-spec =

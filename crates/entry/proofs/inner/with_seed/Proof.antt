@@ -1,6 +1,9 @@
 -- `entry::inner::with_seed` meets its contract: a zero is passed over, and so is every word once enough are there. Assumes nothing.
-use mathlib.Core.Path.{refl}
+use mathlib.Core.Path.{_≡_, refl}
+use lib.ListN.{length}
+use native.Mathlib.Omega.{arith}
 use Rattle.entry.proofs.SeedLaws.{seed-zero, seed-full, seed-taken}
+use mathlib.Core.Path.{refl}
 use borrow.Author.Needs.{needs}
 use Rattle.entry.proofs.inner.with_seed.Statement.{statement}
 use Rattle.entry.proofs.inner.with_seed.Tie as tie
@@ -23,7 +26,8 @@ add-t11 c = search needs
 returns-2 : tie.Need-returns-2
 returns-2 c =
     let s = c .before .before .before in
-    seed-taken (s .args .s) _ (s .args .v) (s .args .most) (c .before .if2 .taken) (search needs) (c .before .before .if1 .left) refl refl
+    let wide : length (s .args .s .words) ≡ 8 = search needs in
+    seed-taken (s .args .s) _ (s .args .v) (s .args .most) (c .before .if2 .taken) (omega arith) (c .before .before .if1 .left) refl refl
 
 returns-3 : tie.Need-returns-3
 returns-3 c = let s = c .before .before in seed-full (s .args .s) (s .args .v) (s .args .most) (s .pre .0) (c .if2 .left)
