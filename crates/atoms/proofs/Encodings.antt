@@ -1,15 +1,14 @@
 -- Laws of the five arrays: a part always has its stride's length, so that a bank with one atom replaced, or with one more, is the same arrays with one part put;
 -- and what was written is read back. Assumes nothing.
 use mathlib.Core.Path.{_≡_, refl, sym, ap, ap₂, _∙_}
-use mathlib.Core.Bool.{Bool, true, false}
+use mathlib.Core.Bool.{true}
 use mathlib.Core.List.{List, [], _∷_, _++_, map}
 use Prim.Native.Nat.{ℕ, zero, suc, _+_, _*_, _≤_, _<_}
-use native.Mathlib.Numerals.{add-one}
 use native.Mathlib.Omega.{arith}
 use lib.ListN.{length, getD, set, take, drop, length-append, length-map, length-set}
 use lib.Seq.{take-suc, take-length}
 use Rattle.arith.specs.Parts.{partAt, putPart, encode}
-use Rattle.arith.proofs.Parts.{encode-part, encode-set, encode-add}
+use Rattle.arith.proofs.Parts.{getD-part, encode-part, encode-set, encode-add}
 use Rattle.arith.proofs.Refusals.{true-not-false}
 use Rattle.simd.specs.declared.Gate.the-variants.{And, Or, Xor, Add, Mul}
 use Rattle.expr.specs.declared.Token.{Token}
@@ -20,8 +19,10 @@ use Rattle.expr.proofs.Tokens.{token-in}
 use Rattle.expr.proofs.Machine.{and-left, and-right, passed}
 use Rattle.atoms.specs.Bank.{Atom, noAtom}
 use Rattle.atoms.specs.Encoding.{opcodeOf, operandOf, padTo, lengthPart, opsPart, operandsPart, costNumbers, costPart, rowPart, Arrays, spread, written}
+use Rattle.atoms.proofs.Lists.{getD-map}
 
 -- ---- padding
+-- a padded list has the length asked for, whatever the list
 pub length-pad : (s d : ℕ) (l : List ℕ) → length (padTo s d l) ≡ s
 unfolding padTo
 length-pad zero d l = refl
@@ -43,6 +44,7 @@ pad-more zero d l x h = absurd (omega arith)
 pad-more (suc s) d [] x h = refl
 pad-more (suc s) d (y ∷ l) x h = ap (λ (m : List ℕ). y ∷ m) (pad-more s d l x (omega arith))
 
+-- places of the list keep their element
 pub getD-pad : (s d : ℕ) (l : List ℕ) (k e : ℕ) → k < s → k < length l → getD (padTo s d l) k e ≡ getD l k e
 unfolding padTo
 getD-pad s d [] k e h m = absurd (omega arith)
@@ -60,20 +62,25 @@ getD-pad-past (suc s) d (x ∷ l) zero e h m = absurd (omega arith)
 getD-pad-past (suc s) d (x ∷ l) (suc k) e h m = getD-pad-past s d l k e (omega arith) (omega arith)
 
 -- ---- the width of each part
+-- one length for each atom, whatever the atom
 pub length-wide : (a : Atom) → length (lengthPart a) ≡ 1
 length-wide a = refl
 
+-- 6 opcodes
 pub ops-wide : (a : Atom) → length (opsPart a) ≡ 6
 unfolding opsPart
 ops-wide a = length-pad 6 255 (map opcodeOf (a .form))
 
+-- 6 operands
 pub operands-wide : (a : Atom) → length (operandsPart a) ≡ 6
 unfolding operandsPart
 operands-wide a = length-pad 6 0 (map operandOf (a .form))
 
+-- 3 cost numbers
 pub cost-wide : (a : Atom) → length (costPart a) ≡ 3
 cost-wide a = refl
 
+-- 16 row words
 pub row-wide : (a : Atom) → length (rowPart a) ≡ 16
 unfolding rowPart
 row-wide a = length-pad 16 0 (a .row)
@@ -94,25 +101,31 @@ pad-token d f ts t h =
     ap (padTo 6 d) (map-snoc f ts t) ∙ pad-more 6 d (map f ts) (f t) (omega arith) ∙ ap (λ (k : ℕ). set (padTo 6 d (map f ts)) k (f t)) e
 
 module _ (a b : Atom) (t : Token) (more : b .form ≡ a .form ++ (t ∷ [])) (room : length (a .form) < 6) where
+  -- its opcode goes in the first free place
   pub ops-more : opsPart b ≡ set (opsPart a) (length (a .form)) (opcodeOf t)
   unfolding opsPart
   ops-more = ap (λ (ts : List Token). padTo 6 255 (map opcodeOf ts)) more ∙ pad-token 255 opcodeOf (a .form) t room
 
+  -- and so does its operand
   pub operands-more : operandsPart b ≡ set (operandsPart a) (length (a .form)) (operandOf t)
   unfolding operandsPart
   operands-more = ap (λ (ts : List Token). padTo 6 0 (map operandOf ts)) more ∙ pad-token 0 operandOf (a .form) t room
 
 -- ---- one array: slot k replaced, one atom more, one part read back
 module _ (s : ℕ) (part : Atom → List ℕ) (wide : (a : Atom) → length (part a) ≡ s) (bank : List Atom) (old : List ℕ) where
+  -- an atom replaced: its part put in its slot
   pub spread-set : (k : ℕ) (a : Atom) → k < length bank → spread s part (set bank k a) old ≡ putPart s (spread s part bank old) k (part a)
   spread-set k a h = rw (length-set bank k a) (sym (encode-set s part wide bank (drop (s * length bank) old) k a h))
 
+  -- one atom more: its part put at the end
   pub spread-add : (a : Atom) → spread s part (bank ++ (a ∷ [])) old ≡ putPart s (spread s part bank old) (length bank) (part a)
   spread-add a = rw (length-append bank (a ∷ [])) (sym (encode-add s part wide bank old (length bank) a refl))
 
+  -- part k is atom k's
   pub spread-part : (k : ℕ) → k < length bank → partAt s (spread s part bank old) k ≡ part (getD bank k noAtom)
   spread-part k h = encode-part s part wide bank (drop (s * length bank) old) noAtom k h
 
+-- a bank of no atoms leaves the array as it was
 pub spread-none : (s : ℕ) (part : Atom → List ℕ) (old : List ℕ) → spread s part [] old ≡ old
 unfolding encode
 spread-none s part old = let e : s * 0 ≡ 0 = omega arith in rw e
@@ -131,6 +144,7 @@ putAtom arrays k a = record {
 arrays-are : (x y : Arrays) → x .lengths ≡ y .lengths → x .ops ≡ y .ops → x .operands ≡ y .operands → x .costs ≡ y .costs → x .rows ≡ y .rows → x ≡ y
 arrays-are x y p q r s t = λ i. record { lengths = p i; ops = q i; operands = r i; costs = s i; rows = t i }
 
+-- a bank of no atoms leaves the arrays as they were
 pub written-none : (old : Arrays) → written [] old ≡ old
 written-none old =
     arrays-are (written [] old) old
@@ -141,6 +155,7 @@ written-none old =
     (spread-none 16 rowPart (old .rows))
 
 module _ (bank : List Atom) (old : Arrays) (a : Atom) where
+  -- one atom replaced
   pub written-set : (k : ℕ) → k < length bank → written (set bank k a) old ≡ putAtom (written bank old) k a
   written-set k h =
       arrays-are (written (set bank k a) old) (putAtom (written bank old) k a)
@@ -150,6 +165,7 @@ module _ (bank : List Atom) (old : Arrays) (a : Atom) where
       (spread-set 3 costPart cost-wide bank (old .costs) k a h)
       (spread-set 16 rowPart row-wide bank (old .rows) k a h)
 
+  -- one atom more
   pub written-add : written (bank ++ (a ∷ [])) old ≡ putAtom (written bank old) (length bank) a
   written-add =
       arrays-are (written (bank ++ (a ∷ [])) old) (putAtom (written bank old) (length bank) a)
@@ -160,6 +176,7 @@ module _ (bank : List Atom) (old : Arrays) (a : Atom) where
       (spread-add 16 rowPart row-wide bank (old .rows) a)
 
 -- ---- reading back
+-- three numbers tell the cost
 pub numbers-cost : (c d : Cost) → costNumbers c ≡ costNumbers d → c ≡ d
 numbers-cost c d e = go (cc) (cc) (cc)
   where
@@ -180,15 +197,10 @@ token-back Not n = refl
 token-back Neg n = refl
 token-back Bad n = absurd (n refl)
 
-getD-map : (f : Token → ℕ) (ts : List Token) (k e : ℕ) (d : Token) → k < length ts → getD (map f ts) k e ≡ f (getD ts k d)
-getD-map f [] k e d h = absurd (omega arith)
-getD-map f (t ∷ ts) zero e d h = refl
-getD-map f (t ∷ ts) (suc k) e d h = getD-map f ts k e d (omega arith)
-
 pad-map : (d : ℕ) (f : Token → ℕ) (ts : List Token) (k : ℕ) → length ts ≤ 6 → k < length ts → getD (padTo 6 d (map f ts)) k 0 ≡ f (getD ts k Bad)
 pad-map d f ts k h m =
     let e : length (map f ts) ≡ length ts = length-map ts f in
-    getD-pad 6 d (map f ts) k 0 (omega arith) (omega arith) ∙ getD-map f ts k 0 Bad m
+    getD-pad 6 d (map f ts) k 0 (omega arith) (omega arith) ∙ getD-map f ts k Bad 0 m
 
 -- tokens that are read one by one
 tokens-are : (ops operands : List ℕ) (ts : List Token) → ((k : ℕ) → k < length ts → tokenAt ops operands k ≡ getD ts k Bad) → (n : ℕ) → n ≤ length ts → tokens n ops operands ≡ take n ts
@@ -214,6 +226,32 @@ known-not-bad nv [] h k l e = omega arith
 known-not-bad nv (t ∷ ts) h zero l e = true-not-false (sym (and-left (known nv t) (allKnown nv ts) h) ∙ ap (known nv) e)
 known-not-bad nv (t ∷ ts) h (suc k) l e = known-not-bad nv ts (and-right (known nv t) (allKnown nv ts) h) k (omega arith) e
 
--- a formula that passes the test has no `Bad`
+-- so is a formula of at most six tokens that passes the test: it has no `Bad`
 pub formula-back : (nv : ℕ) (a : Atom) → isFormula nv (a .form) ≡ true → length (a .form) ≤ 6 → tokens (length (a .form)) (opsPart a) (operandsPart a) ≡ a .form
 formula-back nv a h l = form-back a l (known-not-bad nv (a .form) (passed nv (a .form) h .all))
+
+-- ---- slot k of the arrays is atom k of the bank
+module _ (bank : List Atom) (old : Arrays) (k : ℕ) (h : k < length bank) where
+  -- its token count
+  pub length-at : getD (written bank old .lengths) k 0 ≡ length (getD bank k noAtom .form)
+  length-at =
+      let e : 1 * k + 0 ≡ k = omega arith in
+      ap (λ (m : ℕ). getD (written bank old .lengths) m 0) (sym e)
+      ∙ sym (getD-part 1 (written bank old .lengths) k 0 (omega arith))
+      ∙ ap (λ (l : List ℕ). getD l 0 0) (spread-part 1 lengthPart length-wide bank (old .lengths) k h)
+
+  -- its opcodes
+  pub ops-at : partAt 6 (written bank old .ops) k ≡ opsPart (getD bank k noAtom)
+  ops-at = spread-part 6 opsPart ops-wide bank (old .ops) k h
+
+  -- its operands
+  pub operands-at : partAt 6 (written bank old .operands) k ≡ operandsPart (getD bank k noAtom)
+  operands-at = spread-part 6 operandsPart operands-wide bank (old .operands) k h
+
+  -- its cost's numbers
+  pub cost-at : partAt 3 (written bank old .costs) k ≡ costNumbers (getD bank k noAtom .cost)
+  cost-at = spread-part 3 costPart cost-wide bank (old .costs) k h
+
+  -- its row, if that has sixteen words
+  pub row-at : length (getD bank k noAtom .row) ≡ 16 → partAt 16 (written bank old .rows) k ≡ getD bank k noAtom .row
+  row-at wide = spread-part 16 rowPart row-wide bank (old .rows) k h ∙ row-full (getD bank k noAtom) wide

@@ -3,7 +3,7 @@
 use mathlib.Core.Path.{_≡_, refl, sym, ap, _∙_, subst}
 use mathlib.Core.Bool.{Bool, true, false}
 use mathlib.Core.Logic.{_⊎_, inl, inr}
-use mathlib.Core.List.{List, [], _∷_, _++_, map}
+use mathlib.Core.List.{List, [], _∷_, _++_}
 use Prim.Native.Nat.{ℕ, zero, suc, _+_, _≤_, _<_}
 use native.Mathlib.Numerals.{add-one}
 use native.Mathlib.Omega.{arith}
@@ -30,6 +30,7 @@ Absent bank row = (j : ℕ) → j < length bank → getD bank j noAtom .row ≡ 
 abbrev pub Distinct : List Atom → Type 0
 Distinct bank = (i j : ℕ) → i < j → j < length bank → getD bank i noAtom .row ≡ getD bank j noAtom .row → ⊥
 
+-- where it stands, or that it does not
 pub data Place (bank : List Atom) (row : List ℕ) : Type 0 where
   held : (k : ℕ) → First bank row k → Place bank row
   absent : Absent bank row → Place bank row
@@ -123,9 +124,11 @@ push-length bank a =
     push-cases (λ (l : List Atom). (length l ≡ length bank) ⊎ (length l ≡ length bank + 1)) bank a
     (λ k f e. inl (length-set bank k a)) (λ k f e. inl refl) (λ n. inr (length-append bank (a ∷ [])))
 
+-- it loses none
 pub push-longer : (bank : List Atom) (a : Atom) → length bank ≤ length (push bank a)
 push-longer bank a = elim (push-length bank a) [ inl e ↦ omega arith | inr e ↦ omega arith ]
 
+-- it adds one at most
 pub push-one-more : (bank : List Atom) (a : Atom) → length (push bank a) ≤ length bank + 1
 push-one-more bank a = elim (push-length bank a) [ inl e ↦ omega arith | inr e ↦ omega arith ]
 
@@ -137,6 +140,7 @@ module _ (w : ℕ) (points : List Point) where
   pushAll-append bank [] gs = refl
   pushAll-append bank (f ∷ fs) gs = pushAll-append (push bank (atomOf w points f)) fs gs
 
+  -- a list of one formula
   pub pushAll-one : (bank : List Atom) (f : List Token) → pushAll w points bank (f ∷ []) ≡ push bank (atomOf w points f)
   unfolding pushAll
   pushAll-one bank f = refl
@@ -147,6 +151,7 @@ module _ (w : ℕ) (points : List Point) where
 
   -- ---- turns
   module _ (unaries : List Token) where
+    -- no turns
     pub turns-none : (bank : List Atom) (k : ℕ) → turns w points unaries bank k 0 ≡ bank
     unfolding turns
     turns-none bank k = refl
