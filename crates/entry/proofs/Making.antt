@@ -1,8 +1,8 @@
 -- Why the atoms that are made are those of their formulas: text, cost and row part by part. Assumes nothing.
-use mathlib.Core.Path.{_≡_, refl, sym, ap, ap₂, _∙_, subst}
+use mathlib.Core.Path.{_≡_, refl, sym, ap, _∙_, subst}
 use mathlib.Core.Bool.{Bool, true, cond}
-use mathlib.Core.List.{List, [], _∷_, _++_, map, zipWith, append-assoc}
-use Prim.Native.Nat.{ℕ, zero, suc, _+_, _-_, _%_, _^_, _≤_, _<_}
+use mathlib.Core.List.{List, [], _∷_, _++_, map, append-assoc}
+use Prim.Native.Nat.{ℕ, _+_, _-_, _%_, _^_, _≤_, _<_}
 use borrow.Author.Tests.{ne-eqb, lt-ltb, le-ltb}
 use native.Mathlib.Omega.{arith}
 use lib.ListN.{length, getD, replicate, length-map}
@@ -15,14 +15,16 @@ use Rattle.expr.specs.declared.Token.{Token}
 use Rattle.expr.specs.declared.Token.the-variants.{Constant, Variable, Binary, Not, Neg}
 use Rattle.expr.specs.declared.Cost.{Cost}
 use Rattle.expr.specs.declared.CostInfo.{CostInfo}
-use Rattle.expr.specs.Formula.{isFormula, valueOf}
+use Rattle.expr.specs.Formula.{isFormula}
 use Rattle.expr.specs.Cost.{underUnary, underGate, isNonlinear, infoUnary, infoOf, costOf, Roomy}
-use Rattle.expr.proofs.Formulas.{value-constant, value-variable, value-not, value-neg, value-gate, info-constant, info-variable, info-not, info-neg, info-gate, cost-roomy, variable-passes, neg-passes}
+use Rattle.expr.proofs.Formulas.{value-variable, info-constant, info-variable, info-not, info-neg, info-gate, cost-roomy, variable-passes, neg-passes}
 use Rattle.probe.specs.declared.Point.{Point}
 use Rattle.probe.specs.FormulaRow.{rowOf}
 use Rattle.probe.proofs.FormulaRows.{length-rowOf, getD-rowOf}
 use Rattle.atoms.specs.Bank.{atomOf}
 use Rattle.atoms.specs.Encoding.{opcodeOf, operandOf, padTo, opsPart, operandsPart}
+use Rattle.atoms.proofs.Lists.{getD-map}
+use Rattle.atoms.proofs.AtomRows.{row-constant, row-neg, row-not, row-gate}
 use Rattle.entry.specs.declared.Formula.{Formula}
 use Rattle.entry.specs.declared.Unary.{Unary}
 use Rattle.entry.specs.declared.Unary.the-variants as U
@@ -49,13 +51,6 @@ module _ (w : ℕ) (points : List Point) (ts : List Token) where
   entry-row h = ap (λ (x : Declared.Entry). x .row) h
 
 -- ---- one token
-row-constant : (w v : ℕ) (points : List Point) (n : ℕ) → length points ≡ n → replicate n (v % 2 ^ w) ≡ rowOf w points (Constant v ∷ [])
-unfolding rowOf
-row-constant w v [] zero h = refl
-row-constant w v [] (suc n) h = absurd (omega arith)
-row-constant w v (p ∷ points) zero h = absurd (omega arith)
-row-constant w v (p ∷ points) (suc n) h = ap₂ (λ (x : ℕ) (xs : List ℕ). x ∷ xs) (sym (value-constant w (p .words) v)) (row-constant w v points n (omega arith))
-
 pub constant-is : (w v x : ℕ) (r : Declared.Entry) → x ≡ v % 2 ^ w → r ≡ leafOf 0 v (replicate 16 x) → IsConstant w v r
 unfolding padTo
 constant-is w v x r ex e = record {
@@ -63,7 +58,7 @@ constant-is w v x r ex e = record {
       entry-is w points (Constant v ∷ []) r
       (ap (λ (z : Declared.Entry). z .text) e)
       (ap (λ (z : Declared.Entry). z .cost) e ∙ sym (ap (λ (z : CostInfo). z .cost) (info-constant v)))
-      (ap (λ (z : Declared.Entry). z .row) e ∙ ap (λ (z : ℕ). replicate 16 z) ex ∙ row-constant w v points 16 h);
+      (ap (λ (z : Declared.Entry). z .row) e ∙ ap (λ (z : ℕ). replicate 16 z) ex ∙ ap (λ (n : ℕ). replicate n (v % 2 ^ w)) (sym h) ∙ sym (row-constant w points v));
 }
 
 pub variable-is : (w i : ℕ) (points : List Point) (row : List ℕ) (r : Declared.Entry) → row ≡ rowOf w points (Variable i ∷ []) → r ≡ leafOf 1 i row
@@ -87,16 +82,11 @@ module _ (w i : ℕ) (points : List Point) where
       (e ∙ sym (length-rowOf w points (Variable i ∷ []))) h filled (λ j lt. refl)
 
 -- ---- Neg and Not
-pub getD-map : (f : ℕ → ℕ) (l : List ℕ) (k : ℕ) → k < length l → getD (map f l) k 0 ≡ f (getD l k 0)
-getD-map f [] k h = absurd (omega arith)
-getD-map f (x ∷ l) zero h = refl
-getD-map f (x ∷ l) (suc k) h = getD-map f l k (omega arith)
-
 pub unary-row-is : (u : Unary) (w : ℕ) (row out : List ℕ) (k : ℕ) → length out ≡ length row → length out ≤ k → Filled (λ (j : ℕ). unaryOf u w (getD row j 0)) out k → out ≡ unaryRow u w row
 unfolding unaryRow
 unary-row-is u w row out k e h filled =
     filled-all (λ (j : ℕ). unaryOf u w (getD row j 0)) out (map (unaryOf u w) row) k
-    (e ∙ sym (length-map row (unaryOf u w))) h filled (λ j lt. getD-map (unaryOf u w) row j (omega (arith, length-map row (unaryOf u w))))
+    (e ∙ sym (length-map row (unaryOf u w))) h filled (λ j lt. getD-map (unaryOf u w) row j 0 0 (omega (arith, length-map row (unaryOf u w))))
 
 pub neg-lane : (u : Unary) (w v r : ℕ) → w ≤ 64 → u ≡ U.Neg → r ≡ negOf (modulus w) v → r ≡ unaryOf u w v
 unfolding unaryOf
@@ -111,15 +101,10 @@ unary-operand U.Neg = refl
 unary-operand U.Not = refl
 
 module _ (nv : ℕ) (ts : List Token) (f : isFormula nv ts ≡ true) where
-  value-unary : (w : ℕ) (words : List ℕ) (u : Unary) → unaryOf u w (valueOf w words ts) ≡ valueOf w words (ts ++ (unaryToken u ∷ []))
-  unfolding unaryOf
-  value-unary w words U.Neg = sym (value-neg w words nv ts f)
-  value-unary w words U.Not = sym (value-not w words nv ts f)
-
   row-unary : (w : ℕ) (points : List Point) (u : Unary) → unaryRow u w (rowOf w points ts) ≡ rowOf w points (ts ++ (unaryToken u ∷ []))
-  unfolding rowOf unaryRow
-  row-unary w [] u = refl
-  row-unary w (p ∷ points) u = ap₂ (λ (x : ℕ) (xs : List ℕ). x ∷ xs) (value-unary w (p .words) u) (row-unary w points u)
+  unfolding unaryRow unaryOf
+  row-unary w points U.Neg = sym (row-neg w nv ts f points)
+  row-unary w points U.Not = sym (row-not w nv ts f points)
 
   info-unary : (u : Unary) → infoOf (ts ++ (unaryToken u ∷ [])) ≡ infoUnary (infoOf ts)
   info-unary U.Neg = info-neg nv ts f
@@ -142,11 +127,6 @@ gate-text-is g a b both r opcode eo join more = record {
 }
 
 module _ (nv : ℕ) (ts us : List Token) (f : isFormula nv ts ≡ true) (k : isFormula nv us ≡ true) where
-  row-gate : (w : ℕ) (points : List Point) (g : Gate) → gateRow g w (rowOf w points ts) (rowOf w points us) ≡ rowOf w points (ts ++ (us ++ (Binary g ∷ [])))
-  unfolding rowOf gateRow zipWith
-  row-gate w [] g = refl
-  row-gate w (p ∷ points) g = ap₂ (λ (x : ℕ) (xs : List ℕ). x ∷ xs) (sym (value-gate w (p .words) nv ts f us k g)) (row-gate w points g)
-
   cost-gate : (g : Gate) (x y : Bool) (a b : Cost) → infoOf ts .varies ≡ x → infoOf us .varies ≡ y → a ≡ costOf ts → b ≡ costOf us
       → underGate (isNonlinear g x y) a b ≡ costOf (ts ++ (us ++ (Binary g ∷ [])))
   cost-gate g x y a b ex ey ea eb =
@@ -159,7 +139,7 @@ under-gate-is w g x y a b r text cost row = record {
       entry-is w points (ts ++ (us ++ (Binary g ∷ []))) r
       (text .is ts us (entry-text w points ts ea) (entry-text w points us eb))
       (cost ∙ cost-gate nv ts us f k g x y (a .cost) (b .cost) ex ey (entry-cost w points ts ea) (entry-cost w points us eb))
-      (row ∙ (λ i. gateRow g w (entry-row w points ts ea i) (entry-row w points us eb i)) ∙ row-gate nv ts us f k w points g);
+      (row ∙ (λ i. gateRow g w (entry-row w points ts ea i) (entry-row w points us eb i)) ∙ sym (row-gate w nv ts f us k g points));
 }
 
 -- ---- what the makers ask for holds of every small formula's atom

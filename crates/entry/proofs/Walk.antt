@@ -16,6 +16,7 @@ use Rattle.simd.specs.declared.Gate.the-variants.{Add, Mul}
 use Rattle.expr.specs.declared.Token.{Token}
 use Rattle.expr.specs.declared.Token.the-variants as T
 use Rattle.atoms.specs.Stock.{countUp, constants, ofVariable, gatesOf, differenceOf, stock}
+use Rattle.atoms.proofs.Stocks.{stock-few}
 use Rattle.entry.specs.declared.Cursor.{Cursor}
 use Rattle.entry.specs.declared.Cursor.the-variants.{Constant, Variable, Pair, Difference, Done}
 use Rattle.entry.specs.Cursor.{formOf, gateAt, skipped, differenceFrom, nextOf, firstOf, isDone, WithinVariable, WithinPair, WithinDifference, Within, Stands, variablesFrom, pairsOf, pairsFrom, differencesOf, differencesFrom, restOf}
@@ -217,18 +218,6 @@ done-rest nv w (Variable i k) d = absurd (true-not-false (sym d))
 done-rest nv w (Pair i j k) d = absurd (true-not-false (sym d))
 done-rest nv w (Difference i j) d = absurd (true-not-false (sym d))
 done-rest nv w Done d = refl
-
--- 01, Bank: 157 formulas at six variables, fewer at fewer
-pub stock-few : (nv w : ℕ) → nv ≤ 6 → length (stock nv w) ≤ 157
-unfolding stock flatMap countUp constants ofVariable gatesOf differenceOf
-stock-few zero w h = omega arith
-stock-few (suc zero) w h = omega arith
-stock-few (suc (suc zero)) w h = omega arith
-stock-few (suc (suc (suc zero))) w h = omega arith
-stock-few (suc (suc (suc (suc zero)))) w h = omega arith
-stock-few (suc (suc (suc (suc (suc zero))))) w h = omega arith
-stock-few (suc (suc (suc (suc (suc (suc zero)))))) w h = omega arith
-stock-few (suc (suc (suc (suc (suc (suc (suc nv))))))) w h = absurd (omega arith)
 
 pub first-few : (nv w : ℕ) → nv ≤ 6 → length (restOf nv w firstOf) ≤ 157
 first-few nv w h = rw (first-rest nv w) (stock-few nv w h)
