@@ -25,6 +25,16 @@ ghost use Rattle.entry.specs.Entry.{entryOf, leafOf, unaryToken, unaryOf
 ghost use Rattle.entry.specs.Cursor.{Stands, constantAt, variableAt, gateAt, formOf, skipped, differenceFrom, nextOf};
 ghost use Rattle.entry.specs.Seeding.{WithSeed};
 
+// Constants of the stock, the first of which are their own numbers: 0, 1, 2.
+const CONSTANTS: u32 = 4;
+
+const OWN_NUMBERS: u32 = 3;
+
+// Forms of each variable, and gates of each pair.
+const FORMS: u32 = 3;
+
+const GATES: u32 = 5;
+
 // ---- atoms
 
 // A formula of one token.
@@ -215,16 +225,6 @@ pub fn under_gate(a: Entry, b: Entry, g: Gate, left: bool, right: bool, w: u32) 
 }
 
 // ---- the stock
-
-// Constants of the stock, the first of which are their own numbers: 0, 1, 2.
-const CONSTANTS: u32 = 4;
-
-const OWN_NUMBERS: u32 = 3;
-
-// Forms of each variable, and gates of each pair.
-const FORMS: u32 = 3;
-
-const GATES: u32 = 5;
 
 fn gate_at(k: u32) -> Gate
     ensures { λ r. ⌜ r ≡ gateAt k ⌝ }
