@@ -34,10 +34,12 @@ use Rattle.entry.specs.Cursor.{constantAt, variableAt, gateAt}
 
 -- ---- an atom's parts
 module _ (w : ℕ) (points : List Point) (ts : List Token) where
+  -- an atom by value is its formula's if its three parts are
   pub entry-is : (r : Declared.Entry) → r .text ≡ textOf ts → r .cost ≡ costOf ts → r .row ≡ rowOf w points ts → r ≡ entryOf (atomOf w points ts)
   unfolding atomOf opsPart operandsPart
   entry-is r t c o = λ i. record { text = t i; cost = c i; row = o i }
 
+  -- and the three parts of such an atom
   pub entry-text : {e : Declared.Entry} → e ≡ entryOf (atomOf w points ts) → e .text ≡ textOf ts
   unfolding atomOf opsPart operandsPart
   entry-text h = ap (λ (x : Declared.Entry). x .text) h
@@ -51,6 +53,7 @@ module _ (w : ℕ) (points : List Point) (ts : List Token) where
   entry-row h = ap (λ (x : Declared.Entry). x .row) h
 
 -- ---- one token
+-- what `constant` makes
 pub constant-is : (w v x : ℕ) (r : Declared.Entry) → x ≡ v % 2 ^ w → r ≡ leafOf 0 v (replicate 16 x) → IsConstant w v r
 unfolding padTo
 constant-is w v x r ex e = record {
@@ -61,6 +64,7 @@ constant-is w v x r ex e = record {
       (ap (λ (z : Declared.Entry). z .row) e ∙ ap (λ (z : ℕ). replicate 16 z) ex ∙ ap (λ (n : ℕ). replicate n (v % 2 ^ w)) (sym h) ∙ sym (row-constant w points v));
 }
 
+-- what `variable` makes
 pub variable-is : (w i : ℕ) (points : List Point) (row : List ℕ) (r : Declared.Entry) → row ≡ rowOf w points (Variable i ∷ []) → r ≡ leafOf 1 i row
     → r ≡ entryOf (atomOf w points (Variable i ∷ []))
 unfolding padTo
@@ -71,10 +75,12 @@ variable-is w i points row r er e =
     (ap (λ (z : Declared.Entry). z .row) e ∙ er)
 
 module _ (w i : ℕ) (points : List Point) where
+  -- one place of a variable's row
   pub variable-word : (d : Point) (k r : ℕ) → w ≤ 64 → k < length points → r ≡ getD (getD points k d .words) i 0 % modulus w → r ≡ getD (rowOf w points (Variable i ∷ [])) k 0
   variable-word d k r h l e =
       e ∙ ap (λ (m : ℕ). getD (getD points k d .words) i 0 % m) (modulus-is w h) ∙ sym (value-variable w (getD points k d .words) i) ∙ sym (getD-rowOf w points (Variable i ∷ []) d k l)
 
+  -- all sixteen places of it
   pub variable-row-is : (out : List ℕ) (k : ℕ) → length out ≡ length points → length out ≤ k → Filled (λ (j : ℕ). getD (rowOf w points (Variable i ∷ [])) j 0) out k
       → out ≡ rowOf w points (Variable i ∷ [])
   variable-row-is out k e h filled =
@@ -82,12 +88,14 @@ module _ (w i : ℕ) (points : List Point) where
       (e ∙ sym (length-rowOf w points (Variable i ∷ []))) h filled (λ j lt. refl)
 
 -- ---- Neg and Not
+-- a row whose places are all passed
 pub unary-row-is : (u : Unary) (w : ℕ) (row out : List ℕ) (k : ℕ) → length out ≡ length row → length out ≤ k → Filled (λ (j : ℕ). unaryOf u w (getD row j 0)) out k → out ≡ unaryRow u w row
 unfolding unaryRow
 unary-row-is u w row out k e h filled =
     filled-all (λ (j : ℕ). unaryOf u w (getD row j 0)) out (map (unaryOf u w) row) k
     (e ∙ sym (length-map row (unaryOf u w))) h filled (λ j lt. getD-map (unaryOf u w) row j 0 0 (omega (arith, length-map row (unaryOf u w))))
 
+-- what the two calls of arith give at a width that is not refused
 pub neg-lane : (u : Unary) (w v r : ℕ) → w ≤ 64 → u ≡ U.Neg → r ≡ negOf (modulus w) v → r ≡ unaryOf u w v
 unfolding unaryOf
 neg-lane u w v r h e q = q ∙ ap (λ (m : ℕ). negOf m v) (modulus-is w h) ∙ ap (λ (z : Unary). unaryOf z w v) (sym e)
@@ -96,11 +104,13 @@ pub not-lane : (u : Unary) (w v r : ℕ) → w ≤ 64 → u ≡ U.Not → r ≡ 
 unfolding unaryOf
 not-lane u w v r h e q = q ∙ ap (λ (m : ℕ). notOf m v) (modulus-is w h) ∙ ap (λ (z : Unary). unaryOf z w v) (sym e)
 
+-- Neg and Not have no operand
 pub unary-operand : (u : Unary) → operandOf (unaryToken u) ≡ 0
 unary-operand U.Neg = refl
 unary-operand U.Not = refl
 
 module _ (nv : ℕ) (ts : List Token) (f : isFormula nv ts ≡ true) where
+  -- the row, and the cost with its mark, of a formula under Neg or Not
   row-unary : (w : ℕ) (points : List Point) (u : Unary) → unaryRow u w (rowOf w points ts) ≡ rowOf w points (ts ++ (unaryToken u ∷ []))
   unfolding unaryRow unaryOf
   row-unary w points U.Neg = sym (row-neg w nv ts f points)
@@ -110,6 +120,7 @@ module _ (nv : ℕ) (ts : List Token) (f : isFormula nv ts ≡ true) where
   info-unary U.Neg = info-neg nv ts f
   info-unary U.Not = info-not nv ts f
 
+-- what `under_unary` makes
 pub under-unary-is : (w opcode : ℕ) (u : Unary) (e r : Declared.Entry) → opcode ≡ opcodeOf (unaryToken u) → Longer (e .text) opcode (r .text)
     → r .cost ≡ underUnary (e .cost) → r .row ≡ unaryRow u w (e .row) → UnderUnary w u e r
 under-unary-is w opcode u e r eo text cost row = record {
@@ -121,17 +132,20 @@ under-unary-is w opcode u e r eo text cost row = record {
 }
 
 -- ---- gates
+-- what `gate_text` makes: both texts, then the gate's token
 pub gate-text-is : (g : Gate) (a b both r : Formula) (opcode : ℕ) → opcode ≡ opcodeOf (Binary g) → Joined a b both → Longer both opcode r → GateText g a b r
 gate-text-is g a b both r opcode eo join more = record {
   is = λ ts us ea eb. more .is (ts ++ us) (Binary g) (join .is ts us ea eb) eo refl ∙ ap textOf (append-assoc ts us (Binary g ∷ []));
 }
 
 module _ (nv : ℕ) (ts us : List Token) (f : isFormula nv ts ≡ true) (k : isFormula nv us ≡ true) where
+  -- the cost of a gate, from the costs and the marks of its operands
   cost-gate : (g : Gate) (x y : Bool) (a b : Cost) → infoOf ts .varies ≡ x → infoOf us .varies ≡ y → a ≡ costOf ts → b ≡ costOf us
       → underGate (isNonlinear g x y) a b ≡ costOf (ts ++ (us ++ (Binary g ∷ [])))
   cost-gate g x y a b ex ey ea eb =
       (λ i. underGate (isNonlinear g (sym ex i) (sym ey i)) (ea i) (eb i)) ∙ sym (ap (λ (z : CostInfo). z .cost) (info-gate nv ts f us k g))
 
+-- what `under_gate` makes
 pub under-gate-is : (w : ℕ) (g : Gate) (x y : Bool) (a b r : Declared.Entry) → GateText g (a .text) (b .text) (r .text)
     → r .cost ≡ underGate (isNonlinear g x y) (a .cost) (b .cost) → r .row ≡ gateRow g w (a .row) (b .row) → UnderGate w g x y a b r
 under-gate-is w g x y a b r text cost row = record {
@@ -150,9 +164,11 @@ module _ (w nv : ℕ) (points : List Point) (fits : w ≤ 64) where
   entry-roomy : (ts : List Token) → isFormula nv ts ≡ true → {e : Declared.Entry} → e ≡ entryOf (atomOf w points ts) → Roomy (e .cost)
   entry-roomy ts f h = subst Roomy (sym (entry-cost w points ts h)) (cost-roomy nv ts f)
 
+  -- a formula of at most five tokens may get one more
   pub extends : (ts : List Token) → isFormula nv ts ≡ true → length ts < 6 → {e : Declared.Entry} → e ≡ entryOf (atomOf w points ts) → Extends w e
   extends ts f l h = record { width = fits; room = omega (arith, entry-len ts h); cost = entry-roomy ts f h }
 
+  -- two formulas of at most five tokens together may be joined by a gate
   pub joins : (ts us : List Token) → isFormula nv ts ≡ true → isFormula nv us ≡ true → length ts + length us < 6
       → {a b : Declared.Entry} → a ≡ entryOf (atomOf w points ts) → b ≡ entryOf (atomOf w points us) → Joins w a b
   joins ts us f k l ha hb = record {
@@ -163,6 +179,7 @@ module _ (w nv : ℕ) (points : List Point) (fits : w ≤ 64) where
   }
 
 -- ---- the formulas of the stock
+-- a variable stands in v, and in v Neg, which passes the test
 pub variable-varies : (i : ℕ) → infoOf (Variable i ∷ []) .varies ≡ true
 variable-varies i = ap (λ (z : CostInfo). z .varies) (info-variable i)
 
@@ -172,9 +189,11 @@ minus-passes i h = neg-passes 6 (Variable i ∷ []) (variable-passes 6 i h) (ome
 pub minus-varies : (i : ℕ) → i < 6 → infoOf (Variable i ∷ (Neg ∷ [])) .varies ≡ true
 minus-varies i h = ap (λ (z : CostInfo). z .varies) (info-neg 6 (Variable i ∷ []) (variable-passes 6 i h)) ∙ variable-varies i
 
+-- an equal formula has the same atom
 pub entry-form : (w : ℕ) (points : List Point) {ts us : List Token} {r : Declared.Entry} → r ≡ entryOf (atomOf w points ts) → ts ≡ us → r ≡ entryOf (atomOf w points us)
 entry-form w points h e = h ∙ ap (λ (z : List Token). entryOf (atomOf w points z)) e
 
+-- the constants at their places
 pub constant-low : (w k : ℕ) {r : Declared.Entry} → k < 3 → IsConstant w k r → IsConstant w (constantAt w k) r
 constant-low w k {r} h p = subst (λ (v : ℕ). IsConstant w v r) (sym (ap (λ (b : Bool). cond b k (2 ^ w - 1)) (lt-ltb k 3 h))) p
 
@@ -182,6 +201,7 @@ pub constant-high : (w k v : ℕ) {r : Declared.Entry} → w ≤ 64 → 3 ≤ k 
 constant-high w k v {r} l h e p =
     subst (λ (x : ℕ). IsConstant w x r) (e ∙ ap (λ (m : ℕ). m - 1) (modulus-is w l) ∙ sym (ap (λ (b : Bool). cond b k (2 ^ w - 1)) (le-ltb k 3 h))) p
 
+-- the three forms of a variable at their places
 pub variable-0 : (i k : ℕ) → k ≡ 0 → _≡_ {A = List Token} (Variable i ∷ []) (variableAt i k)
 variable-0 i k e = sym (ap (variableAt i) e)
 
@@ -191,5 +211,6 @@ variable-1 i k e = sym (ap (variableAt i) e)
 pub variable-2 : (i k : ℕ) → (k ≡ 0 → ⊥) → (k ≡ 1 → ⊥) → _≡_ {A = List Token} (Variable i ∷ (Not ∷ [])) (variableAt i k)
 variable-2 i k e f = rw (ne-eqb k 0 e, ne-eqb k 1 f)
 
+-- the gate at its place
 pub pair-form : (i j k : ℕ) (g : Gate) → g ≡ gateAt k → _≡_ {A = List Token} (Variable i ∷ (Variable j ∷ (Binary g ∷ []))) (Variable i ∷ (Variable j ∷ (Binary (gateAt k) ∷ [])))
 pair-form i j k g e = ap (λ (z : Gate). Variable i ∷ (Variable j ∷ (Binary z ∷ []))) e
