@@ -53,3 +53,7 @@ BankIsSound = (nv w : ℕ) (points : List Point) (target : List ℕ) → 1 ≤ n
 
 abbrev pub BankIsComplete : Type 0
 BankIsComplete = (nv w : ℕ) (points : List Point) (target : List ℕ) → Complete nv w points target
+
+-- each row has a word for each point
+abbrev pub BankIsWide : Type 0
+BankIsWide = (nv w : ℕ) (points : List Point) (target : List ℕ) (k : ℕ) → k < length (bankOf nv w points target) → length (getD (bankOf nv w points target) k noAtom .row) ≡ length points
