@@ -84,6 +84,7 @@ putBetter t k text cost = cond (isBetter cost (heldCost (t .costs) k)) (putText 
 pub record Appended (a a′ : Arrays) (work′ : List ℕ) (n : ℕ) (e : Entry) : Type 0 where
   pub ready : Ready a′ work′ (n + 1)
   pub arrays : a′ ≡ putEntry a n e
+  pub wide : length (e .row) ≡ 16
 
 -- what `push` does: whatever bank the arrays hold, they hold it with the atom pushed
 pub record Pushed (a a′ : Arrays) (work′ : List ℕ) (n : ℕ) (e : Entry) (r : ℕ) : Type 0 where

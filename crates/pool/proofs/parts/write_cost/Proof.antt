@@ -2,7 +2,7 @@
 use Prim.Native.Nat.{_-_}
 use native.Mathlib.Omega.{arith}
 use borrow.Author.Needs.{needs}
-use Rattle.pool.proofs.Banks.{three-stored}
+use Rattle.pool.proofs.Pushing.{three-stored}
 use Rattle.pool.proofs.parts.write_cost.Statement.{statement}
 use Rattle.pool.proofs.parts.write_cost.Tie as tie
 
