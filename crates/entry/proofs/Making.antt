@@ -15,7 +15,7 @@ use Rattle.expr.specs.declared.Token.{Token}
 use Rattle.expr.specs.declared.Token.the-variants.{Constant, Variable, Binary, Not, Neg}
 use Rattle.expr.specs.declared.Cost.{Cost}
 use Rattle.expr.specs.declared.CostInfo.{CostInfo}
-use Rattle.expr.specs.Formula.{isFormula}
+use Rattle.expr.specs.Formula.{opcodeOf, operandOf, isFormula}
 use Rattle.expr.specs.Cost.{underUnary, underGate, isNonlinear, infoUnary, infoOf, costOf, Roomy}
 use Rattle.expr.proofs.Formulas.{value-variable, info-constant, info-variable, info-not, info-neg, info-gate, cost-roomy, variable-passes, neg-passes}
 use Rattle.probe.specs.declared.Point.{Point}
@@ -23,7 +23,7 @@ use Rattle.probe.specs.FormulaRow.{rowOf}
 use Rattle.probe.proofs.FormulaRows.{length-rowOf, getD-rowOf}
 use Rattle.atoms.specs.Bank.{Atom, atomOf}
 use Rattle.atoms.specs.Facts.{SoundAtom}
-use Rattle.atoms.specs.Encoding.{opcodeOf, operandOf, padTo, opsPart, operandsPart}
+use Rattle.atoms.specs.Encoding.{padTo, opsPart, operandsPart}
 use Rattle.atoms.proofs.Lists.{getD-map}
 use Rattle.atoms.proofs.AtomRows.{row-constant, row-neg, row-not, row-gate}
 use Rattle.entry.specs.declared.Formula.{Formula}

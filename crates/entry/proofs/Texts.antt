@@ -7,7 +7,8 @@ use native.Mathlib.Omega.{arith}
 use lib.ListN.{length, getD, take, set, length-append, length-map}
 use lib.Seq.{take-suc, take-all, length-take-le}
 use Rattle.expr.specs.declared.Token.{Token}
-use Rattle.atoms.specs.Encoding.{opcodeOf, operandOf, padTo}
+use Rattle.expr.specs.Formula.{opcodeOf, operandOf}
+use Rattle.atoms.specs.Encoding.{padTo}
 use Rattle.atoms.proofs.Encodings.{pad-more, getD-pad}
 use Rattle.entry.specs.declared.Formula.{Formula}
 use Rattle.entry.specs.Entry.{textOf, Longer, Joined}

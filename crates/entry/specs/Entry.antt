@@ -8,11 +8,11 @@ use Rattle.arith.specs.Word.{notOf, negOf}
 use Rattle.simd.specs.declared.Gate.{Gate}
 use Rattle.expr.specs.declared.Token.{Token}
 use Rattle.expr.specs.declared.Token.the-variants.{Constant, Binary, Not, Neg}
-use Rattle.expr.specs.Formula.{isFormula}
+use Rattle.expr.specs.Formula.{opcodeOf, operandOf, isFormula}
 use Rattle.expr.specs.Cost.{leafCost, infoOf, Roomy}
 use Rattle.probe.specs.declared.Point.{Point}
 use Rattle.atoms.specs.Bank.{Atom, atomOf}
-use Rattle.atoms.specs.Encoding.{opcodeOf, operandOf, padTo, opsPart, operandsPart}
+use Rattle.atoms.specs.Encoding.{padTo, opsPart, operandsPart}
 use Rattle.entry.specs.declared.Formula.{Formula}
 use Rattle.entry.specs.declared.Unary.{Unary}
 use Rattle.entry.specs.declared.Unary.the-variants as U

@@ -2,13 +2,35 @@
 
 use std::fmt::Write;
 
+use crate::inputs::INPUT_SEED;
+
 #[derive(Default)]
 pub struct DataFile {
     text: String,
 }
 
 impl DataFile {
-    pub fn comment(&mut self, line: &str) {
+    /// A file with its comment lines: what it has, the subcommand that prints it, and what its lines mean.
+    pub fn with_head(contents: &str, subcommand: &str, lines: &[&str]) -> Self {
+        let mut file = Self::default();
+        file.comment(&format!(
+            "Answers of the original Rust (binsnake/cobra, Apache-2.0): {contents}."
+        ));
+        file.comment("Made in rust/ by:");
+        file.comment(&format!(
+            "  COBRA_SRC=<checkout of binsnake/cobra at 72ea8c3334> cargo run --release -p oracle -- {subcommand}"
+        ));
+        file.comment("Each line: unsigned decimals parted by one blank, the first is the kind. Inputs that are not named cases come from a");
+        file.comment(&format!(
+            "splitmix64 generator of the driver's own, for each kind from the state INPUT_SEED = {INPUT_SEED} plus the kind."
+        ));
+        for line in lines {
+            file.comment(line);
+        }
+        file
+    }
+
+    fn comment(&mut self, line: &str) {
         writeln!(self.text, "# {line}").expect("a string takes all text");
     }
 

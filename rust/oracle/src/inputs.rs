@@ -46,3 +46,13 @@ impl Inputs {
         items[self.below(items.len() as u64) as usize]
     }
 }
+
+/// Sixteen words: the given ones over and over.
+pub fn repeated(words: &[u64]) -> Row {
+    std::array::from_fn(|place| words[place % words.len()])
+}
+
+/// Sixteen points of one variable.
+pub fn one_variable(words: &[u64]) -> Vec<Vec<u64>> {
+    repeated(words).iter().map(|&word| vec![word]).collect()
+}

@@ -1,15 +1,18 @@
 //! Prints what the original Rust of binsnake/cobra answers, as data files for the program that compares.
 //!
 //! In rust/: `COBRA_SRC=<checkout of binsnake/cobra at 72ea8c3334> cargo run --release -p oracle -- probe`, with the
-//! checkout's full path. The subcommands `probe` and `formulas` each print the data file of that name of
+//! checkout's full path. The subcommands `probe`, `formulas`, `banks` and `indexes` each print the data file of that name of
 //! crates/compare/data; `differences` prints where the originals' search differs from the specification, for a reader. The
 //! same sources give the same bytes. src/lib.rs tells how the originals get in; build.rs brings
 //! them. (`cargo fmt` does not find src/access, which build.rs declares: format it by
 //! `rustfmt --edition 2021 src/access/mod.rs`.)
 
+mod banks;
 mod data_file;
 mod differences;
+mod digest;
 mod formulas;
+mod indexes;
 mod inputs;
 mod probe;
 mod spec;
@@ -22,9 +25,11 @@ fn main() -> ExitCode {
     match arguments.iter().map(String::as_str).collect::<Vec<_>>()[..] {
         ["probe"] => print!("{}", probe::data_file()),
         ["formulas"] => print!("{}", formulas::data_file()),
+        ["banks"] => print!("{}", banks::data_file()),
+        ["indexes"] => print!("{}", indexes::data_file()),
         ["differences"] => differences::print(),
         _ => {
-            eprintln!("usage: oracle probe | formulas | differences");
+            eprintln!("usage: oracle probe | formulas | banks | indexes | differences");
             return ExitCode::from(2);
         }
     }

@@ -3,7 +3,8 @@
 use oracle::access::{self, Row};
 
 use crate::data_file::DataFile;
-use crate::inputs::{Inputs, INPUT_SEED};
+use crate::inputs::Inputs;
+use crate::spec::refusals::{NONE, REFUSED_VARS, REFUSED_WIDTH};
 
 const SPLITMIX: u64 = 1;
 const POINTS: u64 = 2;
@@ -17,11 +18,6 @@ const INVERSE: u64 = 8;
 /// Words of a point, those past the variable count included.
 const POINT_WORDS: usize = 6;
 const GATES: usize = 5;
-
-/// Refusals of the specification's table: variable count not 1 to 6, width not 1 to 64.
-const NONE: u64 = 0;
-const REFUSED_VARS: u64 = 1;
-const REFUSED_WIDTH: u64 = 2;
 
 const PUBLISHED_SEED: u64 = 1_234_567;
 const PUBLISHED_WORDS: [u64; 5] = [
@@ -42,10 +38,28 @@ const INVERSE_WIDTHS: [u32; 10] = [1, 2, 3, 8, 16, 31, 32, 33, 63, 64];
 /// Places of a row at which a target is made to differ.
 const CHANGED_PLACES: [usize; 4] = [0, 1, 7, 15];
 
+const HEAD: [&str; 12] = [
+    "Gates: 0 And, 1 Or, 2 Xor, 3 Add, 4 Mul. REFUSAL 0: answered. Any other REFUSAL is the specification's (its least",
+    "number that applies) and was not asked of the Rust; the answer beside it is zeros.",
+    "  1 STATE NEXT WORD              one step of splitmix64: from STATE the next state and the word",
+    "  2 NV W REFUSAL P..             make_probe_points(NV, W): 16 points of 6 words, zeros past NV",
+    "  3 A.. F                        fingerprint of the row A (16 words)",
+    "  4 GATE W REFUSAL A.. B.. R..   gate_apply(A, B) = R, 16 words each",
+    "  5 GATE W REFUSAL T.. A.. R..   gate_residual(target T, A) = R, 16 words each",
+    "  6 GATE W REFUSAL YES A.. B.. T..   gate_matches(A, B, target T): YES is 1 or 0; 16 words each",
+    "  7 W MASK                       bitmask(W)",
+    "  8 M K R                        mod_inverse_odd(M, K) = R, of the stand-in that the specification defines",
+    "The first five lines of kind 1 are not the Rust's answers but splitmix64's published words from seed 1234567 (the",
+    "Rust gives the same, or this file would not have been made).",
+];
+
 /// The whole file.
 pub fn data_file() -> String {
-    let mut file = DataFile::default();
-    head(&mut file);
+    let mut file = DataFile::with_head(
+        "words, points, fingerprints and gates on rows",
+        "probe",
+        &HEAD,
+    );
     published_steps(&mut file);
     splitmix_steps(&mut file);
     points(&mut file);
@@ -57,33 +71,6 @@ pub fn data_file() -> String {
     bitmasks(&mut file);
     inverses(&mut file);
     file.into_text()
-}
-
-fn head(file: &mut DataFile) {
-    let seed = format!(
-        "splitmix64 generator of the driver's own, for each kind from the state INPUT_SEED = {INPUT_SEED} plus the kind."
-    );
-    for line in [
-        "Answers of the original Rust (binsnake/cobra, Apache-2.0): words, points, fingerprints and gates on rows.",
-        "Made in rust/ by:",
-        "  COBRA_SRC=<checkout of binsnake/cobra at 72ea8c3334> cargo run --release -p oracle -- probe",
-        "Each line: unsigned decimals parted by one blank, the first is the kind. Inputs that are not named cases come from a",
-        &seed,
-        "Gates: 0 And, 1 Or, 2 Xor, 3 Add, 4 Mul. REFUSAL 0: answered. Any other REFUSAL is the specification's (its least",
-        "number that applies) and was not asked of the Rust; the answer beside it is zeros.",
-        "  1 STATE NEXT WORD              one step of splitmix64: from STATE the next state and the word",
-        "  2 NV W REFUSAL P..             make_probe_points(NV, W): 16 points of 6 words, zeros past NV",
-        "  3 A.. F                        fingerprint of the row A (16 words)",
-        "  4 GATE W REFUSAL A.. B.. R..   gate_apply(A, B) = R, 16 words each",
-        "  5 GATE W REFUSAL T.. A.. R..   gate_residual(target T, A) = R, 16 words each",
-        "  6 GATE W REFUSAL YES A.. B.. T..   gate_matches(A, B, target T): YES is 1 or 0; 16 words each",
-        "  7 W MASK                       bitmask(W)",
-        "  8 M K R                        mod_inverse_odd(M, K) = R, of the stand-in that the specification defines",
-        "The first five lines of kind 1 are not the Rust's answers but splitmix64's published words from seed 1234567 (the",
-        "Rust gives the same, or this file would not have been made).",
-    ] {
-        file.comment(line);
-    }
 }
 
 /// The published words, with the states between them; the Rust must give the same.

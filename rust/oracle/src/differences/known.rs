@@ -3,7 +3,8 @@
 
 use oracle::access::{self, Formula, Row};
 
-use super::{one_variable, repeated, Setting, PAIRS_MAX};
+use super::{Setting, PAIRS_MAX};
+use crate::inputs::{one_variable, repeated};
 use crate::spec::formulas::{CONSTANT, VARIABLE};
 use crate::spec::search::{self, Answer};
 

@@ -87,17 +87,7 @@ fn joined(left: &Formula, right: &Formula, gate: u8) -> Formula {
     formula
 }
 
-/// Sixteen words: the given ones over and over.
-fn repeated(words: &[u64]) -> Row {
-    std::array::from_fn(|place| words[place % words.len()])
-}
-
 /// Sixteen points: the given ones over and over.
 fn repeated_points(points: &[Vec<u64>]) -> Vec<Vec<u64>> {
     points.iter().cycle().take(16).cloned().collect()
-}
-
-/// Sixteen points of one variable.
-fn one_variable(words: &[u64]) -> Vec<Vec<u64>> {
-    repeated(words).iter().map(|&word| vec![word]).collect()
 }

@@ -4,7 +4,7 @@ use oracle::access::{self, AtomView, Formula, Row};
 
 use super::{joined, Setting, PAIRS_MAX};
 use crate::inputs::Inputs;
-use crate::spec::formulas::{self as spec, ADD, AND, MUL, OR, VARIABLE, XOR};
+use crate::spec::formulas::{self as spec, GATE_OPS, MUL, VARIABLE};
 use crate::spec::search;
 
 /// The generator's number; no kind of line has it.
@@ -13,8 +13,6 @@ const SMALL_BANKS: usize = 1200;
 const LARGE_BANKS: usize = 24;
 const LARGE_LIMIT: usize = 500;
 const TARGETS: usize = 24;
-/// The opcodes of the gates by their numbers.
-const GATE_OPS: [u8; 5] = [AND, OR, XOR, ADD, MUL];
 
 #[derive(Default)]
 struct Tally {

@@ -8,7 +8,8 @@ use std::collections::HashSet;
 
 use oracle::access::{self, AtomView, Row};
 
-use super::{one_variable, repeated_points, Setting, PAIRS_MAX};
+use super::{repeated_points, Setting, PAIRS_MAX};
+use crate::inputs::one_variable;
 use crate::spec::search::{self, Answer};
 
 pub fn print() {

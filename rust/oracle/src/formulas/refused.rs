@@ -7,9 +7,9 @@ use super::made::{left_chain, right_chain, unary_chain, Lean, Maker};
 use super::REFUSED;
 use crate::data_file::DataFile;
 use crate::inputs::Inputs;
-use crate::spec::formulas::{
-    Handed, ADD, CONSTANT, GATES, MUL, NEG, NONE, NOT, REFUSED_FORMULA, REFUSED_LENGTH,
-    REFUSED_VARS, REFUSED_WIDTH, VARIABLE, VARS_MAX, XOR,
+use crate::spec::formulas::{Handed, ADD, CONSTANT, GATES, MUL, NEG, NOT, VARIABLE, VARS_MAX, XOR};
+use crate::spec::refusals::{
+    least, NONE, REFUSED_FORMULA, REFUSED_LENGTH, REFUSED_VARS, REFUSED_WIDTH,
 };
 
 const V0: (u8, u64) = (VARIABLE, 0);
@@ -409,11 +409,3 @@ const FAULTS: [Fault; 5] = [
         cost: REFUSED_FORMULA,
     },
 ];
-
-/// The less of two refusals, where 0 is none.
-fn least(one: u64, other: u64) -> u64 {
-    match (one, other) {
-        (NONE, refusal) | (refusal, NONE) => refusal,
-        _ => one.min(other),
-    }
-}

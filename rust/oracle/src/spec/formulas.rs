@@ -2,6 +2,8 @@
 
 use oracle::access::{Cost, Formula};
 
+use super::refusals::{NONE, REFUSED_FORMULA, REFUSED_LENGTH, REFUSED_VARS, REFUSED_WIDTH};
+
 pub const CONSTANT: u8 = 0;
 pub const VARIABLE: u8 = 1;
 pub const ADD: u8 = 2;
@@ -13,15 +15,10 @@ pub const NOT: u8 = 7;
 pub const NEG: u8 = 8;
 
 pub const GATES: [u8; 5] = [ADD, MUL, AND, OR, XOR];
+/// The opcodes of the gates by their numbers.
+pub const GATE_OPS: [u8; 5] = [AND, OR, XOR, ADD, MUL];
 pub const TOKENS_MAX: usize = 64;
 pub const VARS_MAX: u64 = 6;
-
-/// Refusals of the specification's table.
-pub const NONE: u64 = 0;
-pub const REFUSED_VARS: u64 = 1;
-pub const REFUSED_WIDTH: u64 = 2;
-pub const REFUSED_LENGTH: u64 = 4;
-pub const REFUSED_FORMULA: u64 = 6;
 
 /// The value of a well-formed formula, by a stack.
 pub fn value(formula: &Formula, width: u32, words: &[u64]) -> u64 {
@@ -43,7 +40,8 @@ pub fn value(formula: &Formula, width: u32, words: &[u64]) -> u64 {
     last(stack) as u64
 }
 
-fn gate_word(gate: u8, left: u128, right: u128) -> u128 {
+/// A gate's word before it is reduced.
+pub(super) fn gate_word(gate: u8, left: u128, right: u128) -> u128 {
     match gate {
         ADD => left + right,
         MUL => left * right,

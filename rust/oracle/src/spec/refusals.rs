@@ -1,0 +1,18 @@
+//! The numbers of the specification's table; the least that applies counts.
+
+pub const NONE: u64 = 0;
+pub const REFUSED_VARS: u64 = 1;
+pub const REFUSED_WIDTH: u64 = 2;
+pub const REFUSED_LIMIT: u64 = 3;
+pub const REFUSED_LENGTH: u64 = 4;
+pub const REFUSED_WORD: u64 = 5;
+pub const REFUSED_FORMULA: u64 = 6;
+pub const REFUSED_COUNT: u64 = 7;
+
+/// The less of two refusals, where 0 is none.
+pub fn least(one: u64, other: u64) -> u64 {
+    match (one, other) {
+        (NONE, refusal) | (refusal, NONE) => refusal,
+        _ => one.min(other),
+    }
+}
