@@ -110,15 +110,8 @@ fn append(
 {
     let text = e.text;
     let cost = e.cost;
-    write_text(
-        lengths,
-        ops,
-        operands,
-        costs,
-        AtomSlot(n as u32),
-        text,
-        cost,
-    );
+    let slot = AtomSlot(n as u32);
+    write_text(lengths, ops, operands, costs, slot, text, cost);
     let at = ROW_WORDS * n;
     let row = e.row;
     simd::inner::write_row(&mut rows[at..at + ROW_WORDS], row);
