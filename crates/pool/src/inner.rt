@@ -110,7 +110,8 @@ fn append(
 {
     let text = e.text;
     let cost = e.cost;
-    let slot = AtomSlot(n as u32);
+    let last = n as u32;
+    let slot = AtomSlot(last);
     write_text(lengths, ops, operands, costs, slot, text, cost);
     let at = ROW_WORDS * n;
     let row = e.row;

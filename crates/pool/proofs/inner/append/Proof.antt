@@ -13,8 +13,8 @@ use Rattle.pool.proofs.Pushing.{rows-with, room-kept}
 use Rattle.pool.proofs.inner.append.Statement.{statement}
 use Rattle.pool.proofs.inner.append.Tie as tie
 
-cast-t15 : tie.Need-cast-t15
-cast-t15 c = search needs
+cast-last : tie.Need-cast-last
+cast-last c = search needs
 
 write-text-requires : tie.Need-write-text-requires
 write-text-requires c κs = search needs
@@ -94,7 +94,7 @@ pub append-spec : {M : Type 1} → statement M
 append-spec =
     tie.close
     (tie.spec
-    cast-t15
+    cast-last
     write-text-requires
     mul-at
     add-write-row
