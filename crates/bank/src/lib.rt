@@ -1,5 +1,7 @@
 // The bank: built into lent arrays, a row found in it, a row handed back.
 use entry::ATOM_TOKENS;
+pub mod inner;
+
 use pool::ATOMS_MAX;
 use pool::AtomSlot;
 use pool::COST_NUMBERS;
@@ -10,7 +12,8 @@ ghost use mathlib.Core.Path.{_≡_};
 ghost use Prim.Native.Nat.{_+_, _*_, _^_, _≤_, _<_};
 ghost use lib.ListN.{length, take};
 ghost use Rattle.arith.specs.Refusal.{answer};
-ghost use Rattle.bank.specs.Build.{tooSmall, reaches, pointsReach, bankRefusal};
+ghost use Rattle.pool.specs.Pool.{arrays};
+ghost use Rattle.bank.specs.Build.{BankBuilt, tooSmall, reaches, pointsReach, bankRefusal};
 ghost use Rattle.bank.specs.Lookup.{tooFew, found, foundSays, handedBack, leastFrom};
 
 // The lengths of the lent arrays.
@@ -123,6 +126,38 @@ fn bank_refusal(nv: u32, w: u32, points: [Point; 16], target: [u64; 16], sizes: 
         return 5;
     }
     0
+}
+
+// Builds the bank of nv variables at width w over the points, with the target's seeds, into the lent arrays: the count of atoms.
+// Refuses 1, 2, 4, 5.
+pub fn build_bank(
+    lengths: &mut [u32],
+    ops: &mut [u8],
+    operands: &mut [u64],
+    costs: &mut [u32],
+    rows: &mut [u64],
+    work: &mut [u32],
+    nv: u32,
+    w: u32,
+    points: [Point; 16],
+    target: [u64; 16],
+) -> BankAnswer
+    ensures { λ r. ⌜ BankBuilt nv w points target (arrays (now (lengths .entry)) (now (ops .entry)) (now (operands .entry)) (now (costs .entry)) (now (rows .entry))) (arrays (now (lengths .exit)) (now (ops .exit)) (now (operands .exit)) (now (costs .exit)) (now (rows .exit))) (now (work .entry)) (now (work .exit)) r ⌝ }
+{
+    let sizes = Sizes {
+        lengths: lengths.len(),
+        ops: ops.len(),
+        operands: operands.len(),
+        costs: costs.len(),
+        rows: rows.len(),
+        work: work.len(),
+    };
+    let number = bank_refusal(nv, w, points, target, sizes);
+    if number != 0 {
+        return BankAnswer::Refused(number);
+    }
+    let count = inner::build(lengths, ops, operands, costs, rows, work, nv, w, points, target);
+    BankAnswer::Built(count as u32)
 }
 
 // Finds the least slot of a lent bank whose row is `row`. Refuses 2, 4, 5, 7.

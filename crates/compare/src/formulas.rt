@@ -82,7 +82,14 @@ pub fn formula_same(line: &[u64]) -> bool {
 }
 
 // Whether the value at the line's words, which begin at `from`, is the number after them.
-fn value_is(line: &[u64], count: usize, ops: &[u8], operands: &[u64], from: usize, nv: usize) -> bool
+fn value_is(
+    line: &[u64],
+    count: usize,
+    ops: &[u8],
+    operands: &[u64],
+    from: usize,
+    nv: usize,
+) -> bool
     requires { ⌜ (nv ≤ 6) × ((2 < length (now line)) × (from + nv < length (now line))) ⌝ }
 {
     let w = narrow(line[2]);
