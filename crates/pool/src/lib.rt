@@ -1,0 +1,18 @@
+// One atom pushed into the bank's five lent arrays and the map of its rows: `push` of template_decomposer.rs.
+mod parts;
+pub mod inner;
+
+// An atom's place in the bank. Atom slots and pair slots are never taken for one another.
+pub struct AtomSlot(pub u32);
+
+// The most atoms of a bank.
+pub const ATOMS_MAX: usize = 479;
+
+// The map of a bank's rows has 2^MAP_BITS heads, and a link for each atom.
+pub const MAP_BITS: u32 = 10;
+
+// The words of a bank's work area.
+pub const WORK_WORDS: usize = 4 * ATOMS_MAX;
+
+// The cost numbers of an atom.
+pub const COST_NUMBERS: usize = 3;
