@@ -1,2 +1,4 @@
 -- What the contracts of this crate, and the definitions above it, cite.
 pub mod Entry
+pub mod Cursor
+pub mod Seeding

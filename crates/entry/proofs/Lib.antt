@@ -1,0 +1,5 @@
+-- The laws of this crate, which the crates above cite too.
+pub mod Texts
+pub mod Making
+pub mod Walk
+pub mod SeedLaws

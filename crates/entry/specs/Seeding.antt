@@ -1,0 +1,20 @@
+-- The seeds by value. Assumes nothing.
+use mathlib.Core.Path.{_≡_}
+use mathlib.Core.List.{List, _∷_, _++_}
+use Prim.Native.Nat.{ℕ, _-_, _≤_}
+use lib.ListN.{take}
+use Rattle.atoms.specs.Stock.{firstNonzero, seedsOf}
+use Rattle.entry.specs.declared.Seeds.{Seeds}
+
+abbrev pub seeded : Seeds → List ℕ
+seeded s = take (s .count) (s .words)
+
+-- 01, Bank: the OR of the target row, then its first seven nonzero words
+pub record AreSeeds (target : List ℕ) (r : Seeds) : Type 0 where
+  pub few : r .count ≤ 8
+  pub are : seeded r ≡ seedsOf target
+
+-- one word looked at, where at most `most` are taken in all
+pub record WithSeed (s : Seeds) (v most : ℕ) (r : Seeds) : Type 0 where
+  pub few : r .count ≤ most
+  pub same : (more : List ℕ) → seeded r ++ firstNonzero (most - r .count) more ≡ seeded s ++ firstNonzero (most - s .count) (v ∷ more)
