@@ -1,6 +1,6 @@
 -- Why the atoms that are made are those of their formulas: text, cost and row part by part. Assumes nothing.
 use mathlib.Core.Path.{_≡_, refl, sym, ap, ap₂, _∙_, subst}
-use mathlib.Core.Bool.{Bool, true, false, cond}
+use mathlib.Core.Bool.{Bool, true, cond}
 use mathlib.Core.List.{List, [], _∷_, _++_, map, zipWith, append-assoc}
 use Prim.Native.Nat.{ℕ, zero, suc, _+_, _-_, _%_, _^_, _≤_, _<_}
 use borrow.Author.Tests.{ne-eqb, lt-ltb, le-ltb}
@@ -9,19 +9,19 @@ use lib.ListN.{length, getD, replicate, length-map}
 use Rattle.arith.specs.Word.{modulus, notOf, negOf}
 use Rattle.arith.proofs.Remainders.{modulus-is}
 use Rattle.arith.proofs.Fill.{Filled, filled-all}
-use Rattle.simd.specs.Gates.{gateOf, gateRow}
+use Rattle.simd.specs.Gates.{gateRow}
 use Rattle.simd.specs.declared.Gate.{Gate}
 use Rattle.expr.specs.declared.Token.{Token}
 use Rattle.expr.specs.declared.Token.the-variants.{Constant, Variable, Binary, Not, Neg}
 use Rattle.expr.specs.declared.Cost.{Cost}
 use Rattle.expr.specs.declared.CostInfo.{CostInfo}
 use Rattle.expr.specs.Formula.{isFormula, valueOf}
-use Rattle.expr.specs.Cost.{leafCost, leafInfo, underUnary, underGate, isNonlinear, infoUnary, infoGate, infoOf, costOf, Roomy}
+use Rattle.expr.specs.Cost.{underUnary, underGate, isNonlinear, infoUnary, infoOf, costOf, Roomy}
 use Rattle.expr.proofs.Formulas.{value-constant, value-variable, value-not, value-neg, value-gate, info-constant, info-variable, info-not, info-neg, info-gate, cost-roomy, variable-passes, neg-passes}
 use Rattle.probe.specs.declared.Point.{Point}
 use Rattle.probe.specs.FormulaRow.{rowOf}
 use Rattle.probe.proofs.FormulaRows.{length-rowOf, getD-rowOf}
-use Rattle.atoms.specs.Bank.{Atom, atomOf}
+use Rattle.atoms.specs.Bank.{atomOf}
 use Rattle.atoms.specs.Encoding.{opcodeOf, operandOf, padTo, opsPart, operandsPart}
 use Rattle.entry.specs.declared.Formula.{Formula}
 use Rattle.entry.specs.declared.Unary.{Unary}

@@ -1,10 +1,10 @@
 -- Laws of a formula in six places: one token more, and two formulas one after the other. Assumes nothing.
-use mathlib.Core.Path.{_≡_, refl, sym, ap, ap₂, _∙_, subst}
+use mathlib.Core.Path.{_≡_, sym, ap, _∙_}
 use mathlib.Core.List.{List, [], _∷_, _++_, map, append-nil, append-assoc, map-append}
-use Prim.Native.Nat.{ℕ, zero, suc, _+_, _≤_, _<_}
+use Prim.Native.Nat.{ℕ, _+_, _≤_, _<_}
 use native.Mathlib.Numerals.{add-one}
 use native.Mathlib.Omega.{arith}
-use lib.ListN.{length, getD, take, set, length-append, length-take, length-map}
+use lib.ListN.{length, getD, take, set, length-append, length-map}
 use lib.Seq.{take-suc, take-all, length-take-le}
 use Rattle.expr.specs.declared.Token.{Token}
 use Rattle.atoms.specs.Encoding.{opcodeOf, operandOf, padTo}

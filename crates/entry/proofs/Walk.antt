@@ -8,7 +8,7 @@ use native.Mathlib.Nat.{sub-zero}
 use native.Mathlib.Numerals.{add-one}
 use native.Mathlib.Omega.{arith}
 use lib.Dec.{eqb, ltb}
-use lib.ListN.{length, drop}
+use lib.ListN.{length}
 use borrow.Author.Tests.{eqb-true, ne-eqb, lt-ltb, le-ltb}
 use Rattle.arith.proofs.Remainders.{le-or-lt}
 use Rattle.arith.proofs.Refusals.{true-not-false}
@@ -39,9 +39,9 @@ pub first-rest : (nv w : ℕ) → restOf nv w firstOf ≡ stock nv w
 unfolding restOf stock
 first-rest nv w =
     ap (λ (m : ℕ). constants w
-        ++ (flatMap ofVariable (countUp 0 m)
-        ++ (flatMap (λ (i : ℕ). flatMap (gatesOf i) (countUp i (nv - i))) (countUp 0 m)
-        ++ flatMap (λ (i : ℕ). flatMap (differenceOf i) (countUp 0 nv)) (countUp 0 m))))
+    ++ (flatMap ofVariable (countUp 0 m)
+    ++ (flatMap (λ (i : ℕ). flatMap (gatesOf i) (countUp i (nv - i))) (countUp 0 m)
+    ++ flatMap (λ (i : ℕ). flatMap (differenceOf i) (countUp 0 nv)) (countUp 0 m))))
     (sub-zero nv)
 
 -- ---- the differences
@@ -229,6 +229,9 @@ stock-few (suc (suc (suc (suc zero)))) w h = omega arith
 stock-few (suc (suc (suc (suc (suc zero))))) w h = omega arith
 stock-few (suc (suc (suc (suc (suc (suc zero)))))) w h = omega arith
 stock-few (suc (suc (suc (suc (suc (suc (suc nv))))))) w h = absurd (omega arith)
+
+pub first-few : (nv w : ℕ) → nv ≤ 6 → length (restOf nv w firstOf) ≤ 157
+first-few nv w h = rw (first-rest nv w) (stock-few nv w h)
 
 -- ---- what the code's tests tell
 pub gate-last : (k : ℕ) → (k ≡ 0 → ⊥) → (k ≡ 1 → ⊥) → (k ≡ 2 → ⊥) → (k ≡ 3 → ⊥) → Mul ≡ gateAt k

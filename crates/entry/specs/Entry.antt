@@ -8,7 +8,6 @@ use Rattle.arith.specs.Word.{notOf, negOf}
 use Rattle.simd.specs.declared.Gate.{Gate}
 use Rattle.expr.specs.declared.Token.{Token}
 use Rattle.expr.specs.declared.Token.the-variants.{Constant, Binary, Not, Neg}
-use Rattle.expr.specs.declared.Cost.{Cost}
 use Rattle.expr.specs.Formula.{isFormula}
 use Rattle.expr.specs.Cost.{leafCost, infoOf, Roomy}
 use Rattle.probe.specs.declared.Point.{Point}

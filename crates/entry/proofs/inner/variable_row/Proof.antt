@@ -57,7 +57,7 @@ loop-again c =
       (
         simp length-set (omega arith),
         filled-more _ (l .row) (l .k) (c .reduce .result) (omega arith) (l .inv .1 .1)
-        (variable-word (s .args .w) (s .args .i) (s .args .t2) _ (l .k) (c .reduce .result) (s .pre .0) (search needs) (c .reduce .ensures)),
+            (variable-word (s .args .w) (s .args .i) (s .args .t2) _ (l .k) (c .reduce .result) (s .pre .0) (search needs) (c .reduce .ensures)),
       ),
     )
 
