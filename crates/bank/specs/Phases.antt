@@ -16,14 +16,14 @@ pub record Asked (nv w : ℕ) : Type 0 where
   pub width : w ≤ 64
 
 -- the arrays hold a bank of n atoms, and a push may follow
-pub record Holding (a : Arrays) (work : List ℕ) (n : ℕ) (bank : List Atom) : Type 0 where
+pub record Holding (a : Arrays) (work : List ℕ) (n : ℕ) (atoms : List Atom) : Type 0 where
   pub ready : Ready a work n
-  pub bank : IsBank a a n bank
+  pub bank : IsBank a a n atoms
 
 -- what a phase leaves: the arrays hold the bank over what they held before, and a push may follow
-pub record Phase (a a′ : Arrays) (work′ : List ℕ) (r : ℕ) (bank : List Atom) : Type 0 where
+pub record Phase (a a′ : Arrays) (work′ : List ℕ) (r : ℕ) (atoms : List Atom) : Type 0 where
   pub ready : Ready a′ work′ r
-  pub bank : IsBank a a′ r bank
+  pub bank : IsBank a a′ r atoms
 
 -- 01, Bank: then, for each of the atoms present at that moment, in slot order, Neg and Not
 abbrev pub turnedOf : ℕ → ℕ → List Point → List Atom

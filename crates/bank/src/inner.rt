@@ -87,7 +87,19 @@ fn push_turns(
     let mut k: usize = 0;
     while k < base {
         let slot = AtomSlot(k as u32);
-        n = push_turn(lengths, ops, operands, costs, rows, work, n, slot, nv, w, points);
+        n = push_turn(
+            lengths,
+            ops,
+            operands,
+            costs,
+            rows,
+            work,
+            n,
+            slot,
+            nv,
+            w,
+            points,
+        );
         k += 1;
     }
     n
@@ -142,6 +154,29 @@ pub fn build(
 {
     pool::inner::start(work);
     let base = push_stock(lengths, ops, operands, costs, rows, work, nv, w, points);
-    let turned = push_turns(lengths, ops, operands, costs, rows, work, base, nv, w, points);
-    push_seeds(lengths, ops, operands, costs, rows, work, turned, nv, w, points, target)
+    let turned = push_turns(
+        lengths,
+        ops,
+        operands,
+        costs,
+        rows,
+        work,
+        base,
+        nv,
+        w,
+        points,
+    );
+    push_seeds(
+        lengths,
+        ops,
+        operands,
+        costs,
+        rows,
+        work,
+        turned,
+        nv,
+        w,
+        points,
+        target,
+    )
 }

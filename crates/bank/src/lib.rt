@@ -1,5 +1,6 @@
 // The bank: built into lent arrays, a row found in it, a row handed back.
 use entry::ATOM_TOKENS;
+
 pub mod inner;
 
 use pool::ATOMS_MAX;
@@ -156,7 +157,18 @@ pub fn build_bank(
     if number != 0 {
         return BankAnswer::Refused(number);
     }
-    let count = inner::build(lengths, ops, operands, costs, rows, work, nv, w, points, target);
+    let count = inner::build(
+        lengths,
+        ops,
+        operands,
+        costs,
+        rows,
+        work,
+        nv,
+        w,
+        points,
+        target,
+    );
     BankAnswer::Built(count as u32)
 }
 
