@@ -22,7 +22,7 @@ use Rattle.atoms.proofs.Soundness.{push-distinct}
 use Rattle.entry.specs.declared.Formula.{Formula}
 use Rattle.entry.specs.declared.Entry.{Entry}
 use Rattle.entry.specs.Entry.{entryOf}
-use Rattle.pool.specs.Pool.{arrays, Texts, texts, textsOf, putText, putEntry, Room, Ready, IsBank, heldCost, putBetter, Appended, Pushed, Started, Loaded}
+use Rattle.pool.specs.Pool.{arrays, Texts, texts, textsOf, putText, putEntry, TextRoom, Ready, IsBank, heldCost, putBetter, Appended, Pushed, Started, Loaded}
 
 -- three elements stored, one after the other
 pub three-stored : (l : List ℕ) (a b c : ℕ) → length l ≡ 3 → set (set (set l 0 a) 1 b) 2 c ≡ a ∷ (b ∷ (c ∷ []))
@@ -44,7 +44,7 @@ rows-with et er = λ i. withRows (et i) (er i)
 
 -- arrays keep their lengths, and so their room
 pub room-kept : (t t′ : Texts) → length (t′ .lengths) ≡ length (t .lengths) → length (t′ .ops) ≡ length (t .ops) → length (t′ .operands) ≡ length (t .operands)
-    → length (t′ .costs) ≡ length (t .costs) → Room t → Room t′
+    → length (t′ .costs) ≡ length (t .costs) → TextRoom t → TextRoom t′
 room-kept t t′ l o p c room = record { lengths = rw l (room .lengths); ops = rw o (room .ops); operands = rw p (room .operands); costs = rw c (room .costs) }
 
 -- ---- rows of sixteen words stay so
@@ -108,7 +108,7 @@ loaded now k ops operands row cost eo ep ec er = record { entry = entry }
         λ i. record { text = record { len = l i; ops = o i; operands = p i }; cost = c i; row = r i }
 
 -- the row at a slot, by the arrays
-row-held : {old now : Arrays} {n : ℕ} {bank : List Atom} → IsBank old now n bank → (k : ℕ) → k < length bank → partAt 16 (now .rows) k ≡ getD bank k noAtom .row
+pub row-held : {old now : Arrays} {n : ℕ} {bank : List Atom} → IsBank old now n bank → (k : ℕ) → k < length bank → partAt 16 (now .rows) k ≡ getD bank k noAtom .row
 row-held {old} {now} {n} {bank} is k h = ap (λ (z : Arrays). partAt 16 (z .rows) k) (is .arrays) ∙ row-at bank old k h (is .wide k h)
 
 -- ---- a row that is held, first at slot k
@@ -143,10 +143,10 @@ module _ (bank : List Atom) (old : Arrays) (x : Atom) (k : ℕ) (f : First bank 
       go true = length-set bank k x
       go false = refl
 
-pub pushed-held : (a : Arrays) (t′ : Texts) (work : List ℕ) (n : ℕ) (e : Entry) (k : ℕ) → Ready a work n → Room t′ → Hit (a .rows) n (e .row) k
+pub pushed-held : (a : Arrays) (t′ : Texts) (work : List ℕ) (n : ℕ) (e : Entry) (k : ℕ) → Ready a work n → TextRoom t′ → Hit (a .rows) n (e .row) k
     → t′ ≡ putBetter (textsOf a) k (e .text) (e .cost) → Pushed a (withRows t′ (a .rows)) work n e n
 pushed-held a t′ work n e k ready room hit et = record {
-  ready = record { room = room; rows = ready .rows; area = ready .area; held = ready .held };
+  ready = record { room = record { texts = room; rows = ready .room .rows }; area = ready .area; held = ready .held };
   few = (omega arith, omega arith);
   bank = bank′;
 }
@@ -201,6 +201,6 @@ pushed-new a a′ work′ n e home miss app = record {
 -- ---- no atom yet
 pub started : (work work′ : List ℕ) → work′ ≡ cleared 10 work → 4 * 479 ≤ length work′ → Started work′
 started work work′ e long = record {
-  ready = λ a room rows. record { room = room; rows = rows; area = long; held = rw e (held-empty work (a .rows) 10) };
+  ready = λ a room. record { room = room; area = long; held = rw e (held-empty work (a .rows) 10) };
   bank = λ old. record { count = refl; arrays = sym (written-none old); wide = λ k l. absurd (omega arith); distinct = λ i j l m. absurd (omega arith) };
 }

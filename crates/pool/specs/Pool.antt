@@ -50,18 +50,21 @@ putEntry a k e = record {
   rows = putPart 16 (a .rows) k (e .row);
 }
 
--- 01, From heap ..: lent arrays for 479 atoms: per atom one length, 6 opcodes, 6 operands, 3 cost numbers
-pub record Room (t : Texts) : Type 0 where
+-- 01, From heap ..: lent arrays for 479 atoms: per atom one length, 6 opcodes, 6 operands, 3 cost numbers and 16 row words
+pub record TextRoom (t : Texts) : Type 0 where
   pub lengths : 479 ≤ length (t .lengths)
   pub ops : 6 * 479 ≤ length (t .ops)
   pub operands : 6 * 479 ≤ length (t .operands)
   pub costs : 3 * 479 ≤ length (t .costs)
 
--- what a push into a bank of n atoms is called with, and what it leaves: 16 row words per atom too, and
--- 01, From heap ..: a lent work area of 4 × (L + 479) u32, for the bank L counts as 0. It holds the map of the first n rows
-pub record Ready (a : Arrays) (work : List ℕ) (n : ℕ) : Type 0 where
-  pub room : Room (textsOf a)
+pub record Room (a : Arrays) : Type 0 where
+  pub texts : TextRoom (textsOf a)
   pub rows : 16 * 479 ≤ length (a .rows)
+
+-- what a push into a bank of n atoms is called with, and what it leaves.
+-- 01, From heap ..: `ValMap` becomes a lent work area of 4 × (L + 479) u32; for the bank, L counts as 0. It holds the map of the first n rows
+pub record Ready (a : Arrays) (work : List ℕ) (n : ℕ) : Type 0 where
+  pub room : Room a
   pub area : 4 * 479 ≤ length work
   pub held : Held work (a .rows) 10 n
 
@@ -94,7 +97,7 @@ pub record Pushed (a a′ : Arrays) (work′ : List ℕ) (n : ℕ) (e : Entry) (
 
 -- what `start` does: a push may follow, and no atom is held
 pub record Started (work : List ℕ) : Type 0 where
-  pub ready : (a : Arrays) → Room (textsOf a) → 16 * 479 ≤ length (a .rows) → Ready a work 0
+  pub ready : (a : Arrays) → Room a → Ready a work 0
   pub bank : (old : Arrays) → IsBank old old 0 []
 
 -- what `load_entry` gives: the atom at slot k, whatever bank the arrays hold

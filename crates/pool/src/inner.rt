@@ -3,9 +3,9 @@ use crate::AtomSlot;
 use crate::COST_NUMBERS;
 use crate::MAP_BITS;
 use crate::parts;
+use entry::ATOM_TOKENS;
 use entry::Entry;
 use entry::Formula;
-use entry::ATOM_TOKENS;
 use expr::Cost;
 use simd::ROW_WORDS;
 use valmap::Lookup;
@@ -13,7 +13,7 @@ ghost use mathlib.Core.Path.{_≡_};
 ghost use Prim.Native.Nat.{_*_, _≤_, _<_};
 ghost use lib.ListN.{length};
 ghost use Rattle.valmap.specs.Map.{homeOf};
-ghost use Rattle.pool.specs.Pool.{arrays, texts, putText, putBetter, Room, Ready, Appended, Pushed, Started, Loaded};
+ghost use Rattle.pool.specs.Pool.{arrays, texts, putText, putBetter, TextRoom, Room, Ready, Appended, Pushed, Started, Loaded};
 
 // Empties the map, whatever the work area held.
 pub fn start(work: &mut [u32])
@@ -32,9 +32,7 @@ pub fn load_entry(
     rows: &[u64],
     slot: AtomSlot,
 ) -> Entry
-    requires { ⌜ slot .0 < 479 ⌝ }
-    requires { ⌜ Room (texts (now lengths) (now ops) (now operands) (now costs)) ⌝ }
-    requires { ⌜ 16 * 479 ≤ length (now rows) ⌝ }
+    requires { ⌜ (slot .0 < 479) × Room (arrays (now lengths) (now ops) (now operands) (now costs) (now rows)) ⌝ }
     ensures { λ r. ⌜ Loaded (arrays (now (lengths .entry)) (now (ops .entry)) (now (operands .entry)) (now (costs .entry)) (now (rows .entry))) (slot .0) r ⌝ }
 {
     let at = slot.0 as usize;
@@ -61,7 +59,7 @@ fn write_text(
     text: Formula,
     cost: Cost,
 )
-    requires { ⌜ (slot .0 < 479) × Room (texts (now lengths) (now ops) (now operands) (now costs)) ⌝ }
+    requires { ⌜ (slot .0 < 479) × TextRoom (texts (now lengths) (now ops) (now operands) (now costs)) ⌝ }
     ensures { λ _. ⌜ texts (now (lengths .exit)) (now (ops .exit)) (now (operands .exit)) (now (costs .exit)) ≡ putText (texts (now (lengths .entry)) (now (ops .entry)) (now (operands .entry)) (now (costs .entry))) (slot .0) text cost ⌝ }
 {
     let at = slot.0 as usize;
@@ -85,7 +83,7 @@ fn replace_if_better(
     text: Formula,
     cost: Cost,
 )
-    requires { ⌜ (slot .0 < 479) × Room (texts (now lengths) (now ops) (now operands) (now costs)) ⌝ }
+    requires { ⌜ (slot .0 < 479) × TextRoom (texts (now lengths) (now ops) (now operands) (now costs)) ⌝ }
     ensures { λ _. ⌜ texts (now (lengths .exit)) (now (ops .exit)) (now (operands .exit)) (now (costs .exit)) ≡ putBetter (texts (now (lengths .entry)) (now (ops .entry)) (now (operands .entry)) (now (costs .entry))) (slot .0) text cost ⌝ }
 {
     let held = parts::load_cost(costs, slot);
@@ -112,7 +110,15 @@ fn append(
 {
     let text = e.text;
     let cost = e.cost;
-    write_text(lengths, ops, operands, costs, AtomSlot(n as u32), text, cost);
+    write_text(
+        lengths,
+        ops,
+        operands,
+        costs,
+        AtomSlot(n as u32),
+        text,
+        cost,
+    );
     let at = ROW_WORDS * n;
     let row = e.row;
     simd::inner::write_row(&mut rows[at..at + ROW_WORDS], row);

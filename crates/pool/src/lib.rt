@@ -1,6 +1,6 @@
 // One atom pushed into the bank's five lent arrays and the map of its rows: `push` of template_decomposer.rs.
-mod parts;
 pub mod inner;
+mod parts;
 
 // An atom's place in the bank. Atom slots and pair slots are never taken for one another.
 pub struct AtomSlot(pub u32);

@@ -10,13 +10,14 @@ use Rattle.arith.proofs.Parts.{put-is}
 use Rattle.valmap.proofs.MapLaws.{home-small, held-put-insert}
 use Rattle.pool.specs.Pool.{arrays, texts}
 use Rattle.pool.proofs.Pushing.{rows-with, room-kept}
-use mathlib.Core.Path.{_≡_, ap, _∙_}
+use mathlib.Core.Path.{_≡_, sym, ap, _∙_}
 use Prim.Native.Nat.{ℕ, _-_}
 use lib.ListN.{length}
 use Rattle.arith.proofs.Parts.{put-is}
 use Rattle.valmap.proofs.MapLaws.{home-small, held-put-insert}
 use Rattle.pool.specs.Pool.{arrays, texts}
 use Rattle.pool.proofs.Pushing.{rows-with, room-kept}
+use mathlib.Core.Path.{_≡_, ap, _∙_}
 use Rattle.pool.proofs.inner.append.Statement.{statement}
 use Rattle.pool.proofs.inner.append.Tie as tie
 
@@ -86,10 +87,12 @@ returns c =
     let put = put-is 16 (s .rows .now) (s .n) (wr .last .0) ∙ ap (λ (z : List ℕ). putPart 16 (s .rows .now) (s .n) z) (wr .ensures) in
     record {
       ready = record {
-        room = room-kept t _ (wt .kept .0) (wt .kept .1 .0) (wt .kept .1 .1 .0) (wt .kept .1 .1 .1 .0) (st .pre .1 .room);
-        rows = search needs;
+        room = record {
+          texts = room-kept t _ (wt .kept .0) (wt .kept .1 .0) (wt .kept .1 .1 .0) (wt .kept .1 .1 .1 .0) (st .pre .1 .room .texts);
+          rows = search needs;
+        };
         area = search needs;
-        held = held-put-insert (s .e .row) (omega (arith, st .pre .0, st .pre .1 .rows)) long put (st .pre .0 .1) (c .before .before .insert .ensures) (st .pre .1 .held);
+        held = held-put-insert (s .e .row) (omega (arith, st .pre .0, st .pre .1 .room .rows)) long put (st .pre .0 .1) (c .before .before .insert .ensures) (st .pre .1 .held);
       };
       arrays = rows-with (wt .ensures) put;
       wide = long;

@@ -22,7 +22,7 @@ replace-if-better-requires : tie.Need-replace-if-better-requires
 replace-if-better-requires c κs =
     let st = c .before .before .before .before .before .before .before .before .before .before .before .before .before .before .before .before .before .before .before in
     let hit = lookup-at 10 (c .before .before .before .before .before .before .before .found .given .1) (c .before .before .before .before .before .before .before .before .before .find .ensures) in
-    (omega (arith, st .pre .0, hit .below), st .pre .1 .room)
+    (omega (arith, st .pre .0, hit .below), st .pre .1 .room .texts)
 
 enum-known-found-2 : tie.Need-enum-known-found-2
 enum-known-found-2 c = search needs
@@ -61,7 +61,7 @@ returns c =
     let re = c .before .before .before .before .before .before .before .before .replace-if-better in
     let t = texts (s .lengths .now) (s .ops .now) (s .operands .now) (s .costs .now) in
     pushed-held (arrays (s .lengths .now) (s .ops .now) (s .operands .now) (s .costs .now) (s .rows .now)) _ (s .work .now) (s .n) (s .e) _ (st .pre .1)
-    (room-kept t _ (re .kept .0) (re .kept .1 .0) (re .kept .1 .1 .0) (re .kept .1 .1 .1 .0) (st .pre .1 .room))
+    (room-kept t _ (re .kept .0) (re .kept .1 .0) (re .kept .1 .1 .0) (re .kept .1 .1 .1 .0) (st .pre .1 .room .texts))
     (lookup-at 10 (c .before .before .before .before .before .before .before .before .before .before .before .before .before .before .before .before .found .given .1) (c .before .before .before .before .before .before .before .before .before .before .before .before .before .before .before .before .before .before .find .ensures))
     (re .ensures)
 
