@@ -1,8 +1,8 @@
 -- Why the atoms that are made are those of their formulas: text, cost and row part by part. Assumes nothing.
-use mathlib.Core.Path.{_≡_, refl, sym, ap, ap₂, _∙_, subst}
+use mathlib.Core.Path.{_≡_, refl, sym, ap, _∙_, subst}
 use mathlib.Core.Bool.{Bool, true, cond}
-use mathlib.Core.List.{List, [], _∷_, _++_, map, zipWith, append-assoc}
-use Prim.Native.Nat.{ℕ, zero, suc, _+_, _-_, _%_, _^_, _≤_, _<_}
+use mathlib.Core.List.{List, [], _∷_, _++_, map, append-assoc}
+use Prim.Native.Nat.{ℕ, _+_, _-_, _%_, _^_, _≤_, _<_}
 use borrow.Author.Tests.{ne-eqb, lt-ltb, le-ltb}
 use native.Mathlib.Omega.{arith}
 use lib.ListN.{length, getD, replicate, length-map}
@@ -15,14 +15,17 @@ use Rattle.expr.specs.declared.Token.{Token}
 use Rattle.expr.specs.declared.Token.the-variants.{Constant, Variable, Binary, Not, Neg}
 use Rattle.expr.specs.declared.Cost.{Cost}
 use Rattle.expr.specs.declared.CostInfo.{CostInfo}
-use Rattle.expr.specs.Formula.{isFormula, valueOf}
+use Rattle.expr.specs.Formula.{isFormula}
 use Rattle.expr.specs.Cost.{underUnary, underGate, isNonlinear, infoUnary, infoOf, costOf, Roomy}
-use Rattle.expr.proofs.Formulas.{value-constant, value-variable, value-not, value-neg, value-gate, info-constant, info-variable, info-not, info-neg, info-gate, cost-roomy, variable-passes, neg-passes}
+use Rattle.expr.proofs.Formulas.{value-variable, info-constant, info-variable, info-not, info-neg, info-gate, cost-roomy, variable-passes, neg-passes}
 use Rattle.probe.specs.declared.Point.{Point}
 use Rattle.probe.specs.FormulaRow.{rowOf}
 use Rattle.probe.proofs.FormulaRows.{length-rowOf, getD-rowOf}
-use Rattle.atoms.specs.Bank.{atomOf}
+use Rattle.atoms.specs.Bank.{Atom, atomOf}
+use Rattle.atoms.specs.Facts.{SoundAtom}
 use Rattle.atoms.specs.Encoding.{opcodeOf, operandOf, padTo, opsPart, operandsPart}
+use Rattle.atoms.proofs.Lists.{getD-map}
+use Rattle.atoms.proofs.AtomRows.{row-constant, row-neg, row-not, row-gate}
 use Rattle.entry.specs.declared.Formula.{Formula}
 use Rattle.entry.specs.declared.Unary.{Unary}
 use Rattle.entry.specs.declared.Unary.the-variants as U
@@ -32,10 +35,12 @@ use Rattle.entry.specs.Cursor.{constantAt, variableAt, gateAt}
 
 -- ---- an atom's parts
 module _ (w : ℕ) (points : List Point) (ts : List Token) where
+  -- an atom by value is its formula's if its three parts are
   pub entry-is : (r : Declared.Entry) → r .text ≡ textOf ts → r .cost ≡ costOf ts → r .row ≡ rowOf w points ts → r ≡ entryOf (atomOf w points ts)
   unfolding atomOf opsPart operandsPart
   entry-is r t c o = λ i. record { text = t i; cost = c i; row = o i }
 
+  -- and the three parts of such an atom
   pub entry-text : {e : Declared.Entry} → e ≡ entryOf (atomOf w points ts) → e .text ≡ textOf ts
   unfolding atomOf opsPart operandsPart
   entry-text h = ap (λ (x : Declared.Entry). x .text) h
@@ -48,14 +53,13 @@ module _ (w : ℕ) (points : List Point) (ts : List Token) where
   unfolding atomOf opsPart operandsPart
   entry-row h = ap (λ (x : Declared.Entry). x .row) h
 
--- ---- one token
-row-constant : (w v : ℕ) (points : List Point) (n : ℕ) → length points ≡ n → replicate n (v % 2 ^ w) ≡ rowOf w points (Constant v ∷ [])
-unfolding rowOf
-row-constant w v [] zero h = refl
-row-constant w v [] (suc n) h = absurd (omega arith)
-row-constant w v (p ∷ points) zero h = absurd (omega arith)
-row-constant w v (p ∷ points) (suc n) h = ap₂ (λ (x : ℕ) (xs : List ℕ). x ∷ xs) (sym (value-constant w (p .words) v)) (row-constant w v points n (omega arith))
+-- an atom of a sound bank is its formula's
+pub sound-entry : (nv w : ℕ) (points : List Point) (a : Atom) → SoundAtom nv w points a → entryOf a ≡ entryOf (atomOf w points (a .form))
+unfolding opsPart operandsPart
+sound-entry nv w points a s = entry-is w points (a .form) (entryOf a) refl (s .cost) (s .row)
 
+-- ---- one token
+-- what `constant` makes
 pub constant-is : (w v x : ℕ) (r : Declared.Entry) → x ≡ v % 2 ^ w → r ≡ leafOf 0 v (replicate 16 x) → IsConstant w v r
 unfolding padTo
 constant-is w v x r ex e = record {
@@ -63,9 +67,10 @@ constant-is w v x r ex e = record {
       entry-is w points (Constant v ∷ []) r
       (ap (λ (z : Declared.Entry). z .text) e)
       (ap (λ (z : Declared.Entry). z .cost) e ∙ sym (ap (λ (z : CostInfo). z .cost) (info-constant v)))
-      (ap (λ (z : Declared.Entry). z .row) e ∙ ap (λ (z : ℕ). replicate 16 z) ex ∙ row-constant w v points 16 h);
+      (ap (λ (z : Declared.Entry). z .row) e ∙ ap (λ (z : ℕ). replicate 16 z) ex ∙ ap (λ (n : ℕ). replicate n (v % 2 ^ w)) (sym h) ∙ sym (row-constant w points v));
 }
 
+-- what `variable` makes
 pub variable-is : (w i : ℕ) (points : List Point) (row : List ℕ) (r : Declared.Entry) → row ≡ rowOf w points (Variable i ∷ []) → r ≡ leafOf 1 i row
     → r ≡ entryOf (atomOf w points (Variable i ∷ []))
 unfolding padTo
@@ -76,10 +81,12 @@ variable-is w i points row r er e =
     (ap (λ (z : Declared.Entry). z .row) e ∙ er)
 
 module _ (w i : ℕ) (points : List Point) where
+  -- one place of a variable's row
   pub variable-word : (d : Point) (k r : ℕ) → w ≤ 64 → k < length points → r ≡ getD (getD points k d .words) i 0 % modulus w → r ≡ getD (rowOf w points (Variable i ∷ [])) k 0
   variable-word d k r h l e =
       e ∙ ap (λ (m : ℕ). getD (getD points k d .words) i 0 % m) (modulus-is w h) ∙ sym (value-variable w (getD points k d .words) i) ∙ sym (getD-rowOf w points (Variable i ∷ []) d k l)
 
+  -- all sixteen places of it
   pub variable-row-is : (out : List ℕ) (k : ℕ) → length out ≡ length points → length out ≤ k → Filled (λ (j : ℕ). getD (rowOf w points (Variable i ∷ [])) j 0) out k
       → out ≡ rowOf w points (Variable i ∷ [])
   variable-row-is out k e h filled =
@@ -87,17 +94,14 @@ module _ (w i : ℕ) (points : List Point) where
       (e ∙ sym (length-rowOf w points (Variable i ∷ []))) h filled (λ j lt. refl)
 
 -- ---- Neg and Not
-pub getD-map : (f : ℕ → ℕ) (l : List ℕ) (k : ℕ) → k < length l → getD (map f l) k 0 ≡ f (getD l k 0)
-getD-map f [] k h = absurd (omega arith)
-getD-map f (x ∷ l) zero h = refl
-getD-map f (x ∷ l) (suc k) h = getD-map f l k (omega arith)
-
+-- a row whose places are all passed
 pub unary-row-is : (u : Unary) (w : ℕ) (row out : List ℕ) (k : ℕ) → length out ≡ length row → length out ≤ k → Filled (λ (j : ℕ). unaryOf u w (getD row j 0)) out k → out ≡ unaryRow u w row
 unfolding unaryRow
 unary-row-is u w row out k e h filled =
     filled-all (λ (j : ℕ). unaryOf u w (getD row j 0)) out (map (unaryOf u w) row) k
-    (e ∙ sym (length-map row (unaryOf u w))) h filled (λ j lt. getD-map (unaryOf u w) row j (omega (arith, length-map row (unaryOf u w))))
+    (e ∙ sym (length-map row (unaryOf u w))) h filled (λ j lt. getD-map (unaryOf u w) row j 0 0 (omega (arith, length-map row (unaryOf u w))))
 
+-- what the two calls of arith give at a width that is not refused
 pub neg-lane : (u : Unary) (w v r : ℕ) → w ≤ 64 → u ≡ U.Neg → r ≡ negOf (modulus w) v → r ≡ unaryOf u w v
 unfolding unaryOf
 neg-lane u w v r h e q = q ∙ ap (λ (m : ℕ). negOf m v) (modulus-is w h) ∙ ap (λ (z : Unary). unaryOf z w v) (sym e)
@@ -106,25 +110,23 @@ pub not-lane : (u : Unary) (w v r : ℕ) → w ≤ 64 → u ≡ U.Not → r ≡ 
 unfolding unaryOf
 not-lane u w v r h e q = q ∙ ap (λ (m : ℕ). notOf m v) (modulus-is w h) ∙ ap (λ (z : Unary). unaryOf z w v) (sym e)
 
+-- Neg and Not have no operand
 pub unary-operand : (u : Unary) → operandOf (unaryToken u) ≡ 0
 unary-operand U.Neg = refl
 unary-operand U.Not = refl
 
 module _ (nv : ℕ) (ts : List Token) (f : isFormula nv ts ≡ true) where
-  value-unary : (w : ℕ) (words : List ℕ) (u : Unary) → unaryOf u w (valueOf w words ts) ≡ valueOf w words (ts ++ (unaryToken u ∷ []))
-  unfolding unaryOf
-  value-unary w words U.Neg = sym (value-neg w words nv ts f)
-  value-unary w words U.Not = sym (value-not w words nv ts f)
-
+  -- the row, and the cost with its mark, of a formula under Neg or Not
   row-unary : (w : ℕ) (points : List Point) (u : Unary) → unaryRow u w (rowOf w points ts) ≡ rowOf w points (ts ++ (unaryToken u ∷ []))
-  unfolding rowOf unaryRow
-  row-unary w [] u = refl
-  row-unary w (p ∷ points) u = ap₂ (λ (x : ℕ) (xs : List ℕ). x ∷ xs) (value-unary w (p .words) u) (row-unary w points u)
+  unfolding unaryRow unaryOf
+  row-unary w points U.Neg = sym (row-neg w nv ts f points)
+  row-unary w points U.Not = sym (row-not w nv ts f points)
 
   info-unary : (u : Unary) → infoOf (ts ++ (unaryToken u ∷ [])) ≡ infoUnary (infoOf ts)
   info-unary U.Neg = info-neg nv ts f
   info-unary U.Not = info-not nv ts f
 
+-- what `under_unary` makes
 pub under-unary-is : (w opcode : ℕ) (u : Unary) (e r : Declared.Entry) → opcode ≡ opcodeOf (unaryToken u) → Longer (e .text) opcode (r .text)
     → r .cost ≡ underUnary (e .cost) → r .row ≡ unaryRow u w (e .row) → UnderUnary w u e r
 under-unary-is w opcode u e r eo text cost row = record {
@@ -136,22 +138,20 @@ under-unary-is w opcode u e r eo text cost row = record {
 }
 
 -- ---- gates
+-- what `gate_text` makes: both texts, then the gate's token
 pub gate-text-is : (g : Gate) (a b both r : Formula) (opcode : ℕ) → opcode ≡ opcodeOf (Binary g) → Joined a b both → Longer both opcode r → GateText g a b r
 gate-text-is g a b both r opcode eo join more = record {
   is = λ ts us ea eb. more .is (ts ++ us) (Binary g) (join .is ts us ea eb) eo refl ∙ ap textOf (append-assoc ts us (Binary g ∷ []));
 }
 
 module _ (nv : ℕ) (ts us : List Token) (f : isFormula nv ts ≡ true) (k : isFormula nv us ≡ true) where
-  row-gate : (w : ℕ) (points : List Point) (g : Gate) → gateRow g w (rowOf w points ts) (rowOf w points us) ≡ rowOf w points (ts ++ (us ++ (Binary g ∷ [])))
-  unfolding rowOf gateRow zipWith
-  row-gate w [] g = refl
-  row-gate w (p ∷ points) g = ap₂ (λ (x : ℕ) (xs : List ℕ). x ∷ xs) (sym (value-gate w (p .words) nv ts f us k g)) (row-gate w points g)
-
+  -- the cost of a gate, from the costs and the marks of its operands
   cost-gate : (g : Gate) (x y : Bool) (a b : Cost) → infoOf ts .varies ≡ x → infoOf us .varies ≡ y → a ≡ costOf ts → b ≡ costOf us
       → underGate (isNonlinear g x y) a b ≡ costOf (ts ++ (us ++ (Binary g ∷ [])))
   cost-gate g x y a b ex ey ea eb =
       (λ i. underGate (isNonlinear g (sym ex i) (sym ey i)) (ea i) (eb i)) ∙ sym (ap (λ (z : CostInfo). z .cost) (info-gate nv ts f us k g))
 
+-- what `under_gate` makes
 pub under-gate-is : (w : ℕ) (g : Gate) (x y : Bool) (a b r : Declared.Entry) → GateText g (a .text) (b .text) (r .text)
     → r .cost ≡ underGate (isNonlinear g x y) (a .cost) (b .cost) → r .row ≡ gateRow g w (a .row) (b .row) → UnderGate w g x y a b r
 under-gate-is w g x y a b r text cost row = record {
@@ -159,7 +159,7 @@ under-gate-is w g x y a b r text cost row = record {
       entry-is w points (ts ++ (us ++ (Binary g ∷ []))) r
       (text .is ts us (entry-text w points ts ea) (entry-text w points us eb))
       (cost ∙ cost-gate nv ts us f k g x y (a .cost) (b .cost) ex ey (entry-cost w points ts ea) (entry-cost w points us eb))
-      (row ∙ (λ i. gateRow g w (entry-row w points ts ea i) (entry-row w points us eb i)) ∙ row-gate nv ts us f k w points g);
+      (row ∙ (λ i. gateRow g w (entry-row w points ts ea i) (entry-row w points us eb i)) ∙ sym (row-gate w nv ts f us k g points));
 }
 
 -- ---- what the makers ask for holds of every small formula's atom
@@ -170,9 +170,11 @@ module _ (w nv : ℕ) (points : List Point) (fits : w ≤ 64) where
   entry-roomy : (ts : List Token) → isFormula nv ts ≡ true → {e : Declared.Entry} → e ≡ entryOf (atomOf w points ts) → Roomy (e .cost)
   entry-roomy ts f h = subst Roomy (sym (entry-cost w points ts h)) (cost-roomy nv ts f)
 
+  -- a formula of at most five tokens may get one more
   pub extends : (ts : List Token) → isFormula nv ts ≡ true → length ts < 6 → {e : Declared.Entry} → e ≡ entryOf (atomOf w points ts) → Extends w e
   extends ts f l h = record { width = fits; room = omega (arith, entry-len ts h); cost = entry-roomy ts f h }
 
+  -- two formulas of at most five tokens together may be joined by a gate
   pub joins : (ts us : List Token) → isFormula nv ts ≡ true → isFormula nv us ≡ true → length ts + length us < 6
       → {a b : Declared.Entry} → a ≡ entryOf (atomOf w points ts) → b ≡ entryOf (atomOf w points us) → Joins w a b
   joins ts us f k l ha hb = record {
@@ -183,6 +185,7 @@ module _ (w nv : ℕ) (points : List Point) (fits : w ≤ 64) where
   }
 
 -- ---- the formulas of the stock
+-- a variable stands in v, and in v Neg, which passes the test
 pub variable-varies : (i : ℕ) → infoOf (Variable i ∷ []) .varies ≡ true
 variable-varies i = ap (λ (z : CostInfo). z .varies) (info-variable i)
 
@@ -192,9 +195,11 @@ minus-passes i h = neg-passes 6 (Variable i ∷ []) (variable-passes 6 i h) (ome
 pub minus-varies : (i : ℕ) → i < 6 → infoOf (Variable i ∷ (Neg ∷ [])) .varies ≡ true
 minus-varies i h = ap (λ (z : CostInfo). z .varies) (info-neg 6 (Variable i ∷ []) (variable-passes 6 i h)) ∙ variable-varies i
 
+-- an equal formula has the same atom
 pub entry-form : (w : ℕ) (points : List Point) {ts us : List Token} {r : Declared.Entry} → r ≡ entryOf (atomOf w points ts) → ts ≡ us → r ≡ entryOf (atomOf w points us)
 entry-form w points h e = h ∙ ap (λ (z : List Token). entryOf (atomOf w points z)) e
 
+-- the constants at their places
 pub constant-low : (w k : ℕ) {r : Declared.Entry} → k < 3 → IsConstant w k r → IsConstant w (constantAt w k) r
 constant-low w k {r} h p = subst (λ (v : ℕ). IsConstant w v r) (sym (ap (λ (b : Bool). cond b k (2 ^ w - 1)) (lt-ltb k 3 h))) p
 
@@ -202,6 +207,7 @@ pub constant-high : (w k v : ℕ) {r : Declared.Entry} → w ≤ 64 → 3 ≤ k 
 constant-high w k v {r} l h e p =
     subst (λ (x : ℕ). IsConstant w x r) (e ∙ ap (λ (m : ℕ). m - 1) (modulus-is w l) ∙ sym (ap (λ (b : Bool). cond b k (2 ^ w - 1)) (le-ltb k 3 h))) p
 
+-- the three forms of a variable at their places
 pub variable-0 : (i k : ℕ) → k ≡ 0 → _≡_ {A = List Token} (Variable i ∷ []) (variableAt i k)
 variable-0 i k e = sym (ap (variableAt i) e)
 
@@ -211,5 +217,6 @@ variable-1 i k e = sym (ap (variableAt i) e)
 pub variable-2 : (i k : ℕ) → (k ≡ 0 → ⊥) → (k ≡ 1 → ⊥) → _≡_ {A = List Token} (Variable i ∷ (Not ∷ [])) (variableAt i k)
 variable-2 i k e f = rw (ne-eqb k 0 e, ne-eqb k 1 f)
 
+-- the gate at its place
 pub pair-form : (i j k : ℕ) (g : Gate) → g ≡ gateAt k → _≡_ {A = List Token} (Variable i ∷ (Variable j ∷ (Binary g ∷ []))) (Variable i ∷ (Variable j ∷ (Binary (gateAt k) ∷ [])))
 pair-form i j k g e = ap (λ (z : Gate). Variable i ∷ (Variable j ∷ (Binary z ∷ []))) e

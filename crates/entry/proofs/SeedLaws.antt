@@ -12,35 +12,42 @@ use Rattle.entry.specs.declared.Seeds.{Seeds}
 use Rattle.entry.specs.Seeding.{seeded, AreSeeds, WithSeed}
 
 -- ---- the OR
+-- past the last word nothing is joined
 pub or-none : (l : List ℕ) (k : ℕ) → length l ≤ k → 0 ≡ orAll (drop k l)
 unfolding orAll
 or-none l k h = sym (ap orAll (drop-of-length-le l h))
 
+-- one word more, from the end
 pub or-more : (l : List ℕ) (k all : ℕ) → k < length l → all ≡ orAll (drop (suc k) l) → bitOr (getD l k 0) all ≡ orAll (drop k l)
 unfolding orAll
 or-more l k all h e = ap (bitOr (getD l k 0)) e ∙ sym (ap orAll (drop-cons l k 0 h))
 
 -- ---- one word
+-- a zero is passed over
 pass-zero : (n : ℕ) (more : List ℕ) → firstNonzero n more ≡ firstNonzero n (0 ∷ more)
 unfolding firstNonzero
 pass-zero zero more = refl
 pass-zero (suc n) more = refl
 
+-- another word is taken where one may be
 take-word : (n v : ℕ) (more : List ℕ) → (v ≡ 0 → ⊥) → firstNonzero (suc n) (v ∷ more) ≡ v ∷ firstNonzero n more
 unfolding firstNonzero
 take-word n zero more h = absurd (h refl)
 take-word n (suc v) more h = refl
 
+-- no words, no seeds
 nothing-left : (n : ℕ) → firstNonzero n [] ≡ []
 unfolding firstNonzero
 nothing-left zero = refl
 nothing-left (suc n) = refl
 
+-- where none may be taken, the words do not matter
 full : (n : ℕ) (xs ys : List ℕ) → n ≡ 0 → firstNonzero n xs ≡ firstNonzero n ys
 unfolding firstNonzero
 full zero xs ys e = refl
 full (suc n) xs ys e = absurd (omega arith)
 
+-- the three ends of `with_seed`: a zero, enough taken, one taken
 pub seed-zero : (s : Seeds) (v most : ℕ) → s .count ≤ most → v ≡ 0 → WithSeed s v most s
 seed-zero s v most h e = record {
   few = h;
@@ -75,6 +82,7 @@ pub record Seeding (target : List ℕ) (s : Seeds) (most i : ℕ) : Type 0 where
   pub limit : most ≤ 8
   pub rest : seeded s ++ firstNonzero (most - s .count) (drop i target) ≡ seedsOf target
 
+-- the OR is looked at alone, as a list of one word of which one may be taken
 pub seeding-first : (target : List ℕ) (none s : Seeds) (all most : ℕ) → none .count ≡ 0 → all ≡ orAll target → WithSeed none all 1 s → most ≡ s .count + 7 → Seeding target s most 0
 unfolding seedsOf
 seeding-first target none s all most en ea w em = record {
@@ -92,6 +100,7 @@ seeding-first target none s all most en ea w em = record {
     first : seeded none ++ firstNonzero (1 - none .count) (all ∷ []) ≡ firstNonzero 1 (orAll target ∷ [])
     first = (λ i. take (en i) (none .words) ++ firstNonzero (1 - en i) (ea i ∷ []))
 
+-- one word of the target more
 pub seeding-more : (target : List ℕ) (s r : Seeds) (most i : ℕ) → i < length target → Seeding target s most i → WithSeed s (getD target i 0) most r → Seeding target r most (i + 1)
 seeding-more target s r most i h p w = record {
   few = w .few;
@@ -103,6 +112,7 @@ seeding-more target s r most i h p w = record {
       ∙ p .rest;
 }
 
+-- all sixteen are passed
 pub seeding-done : (target : List ℕ) (s : Seeds) (most i : ℕ) → length target ≤ i → Seeding target s most i → AreSeeds target s
 seeding-done target s most i h p = record {
   few = omega (arith, p .few, p .limit);
@@ -111,8 +121,10 @@ seeding-done target s most i h p = record {
 
 -- ---- what a loop over the seeds needs
 module _ (target : List ℕ) (r : Seeds) (p : AreSeeds target r) where
+  -- as many seeds as are counted
   pub seeds-count : length (r .words) ≡ 8 → length (seedsOf target) ≡ r .count
   seeds-count h = ap length (sym (p .are)) ∙ length-take-le (r .count) (r .words) (omega (arith, p .few))
 
+  -- each of them
   pub seed-at : (k : ℕ) → k < r .count → getD (r .words) k 0 ≡ getD (seedsOf target) k 0
   seed-at k h = sym (getD-take (r .count) (r .words) k 0 h) ∙ ap (λ (l : List ℕ). getD l k 0) (p .are)

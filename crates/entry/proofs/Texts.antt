@@ -13,6 +13,7 @@ use Rattle.entry.specs.declared.Formula.{Formula}
 use Rattle.entry.specs.Entry.{textOf, Longer, Joined}
 
 -- ---- one token more
+-- one part of a formula: the first free place is written
 part-more : (d : ℕ) (f : Token → ℕ) (ts : List Token) (t : Token) (l : List ℕ) (n v : ℕ)
     → l ≡ padTo 6 d (map f ts) → n ≡ length ts → v ≡ f t → length ts < 6 → set l n v ≡ padTo 6 d (map f (ts ++ (t ∷ [])))
 part-more d f ts t l n v el en ev h =
@@ -20,6 +21,7 @@ part-more d f ts t l n v el en ev h =
     ∙ sym (pad-more 6 d (map f ts) (f t) (omega (arith, length-map ts f)))
     ∙ ap (padTo 6 d) (sym (map-append f ts (t ∷ [])))
 
+-- the text that `with_token` writes
 pub longer : (f r : Formula) (opcode : ℕ) → f .len < 6 → r .len ≡ f .len + 1 → r .ops ≡ set (f .ops) (f .len) opcode
     → r .operands ≡ set (f .operands) (f .len) 0 → Longer f opcode r
 longer f r opcode h el eo ep = record {
@@ -36,9 +38,11 @@ abbrev pub Copied : (d la lb : ℕ) (p q out : List ℕ) (k : ℕ) → Type 0
 Copied d la lb p q out k =
     (xs ys : List ℕ) → p ≡ padTo 6 d xs → length xs ≡ la → q ≡ padTo 6 d ys → length ys ≡ lb → out ≡ padTo 6 d (xs ++ take k ys)
 
+-- before the first element
 pub copied-none : (d la lb : ℕ) (p q : List ℕ) → Copied d la lb p q p 0
 copied-none d la lb p q xs ys ea la′ eb lb′ = ea ∙ ap (padTo 6 d) (sym (append-nil xs))
 
+-- one element more
 pub copied-more : (d la lb : ℕ) (p q out : List ℕ) (k : ℕ) → la + lb ≤ 6 → k < lb → Copied d la lb p q out k
     → Copied d la lb p q (set out (la + k) (getD q k 0)) (k + 1)
 copied-more d la lb p q out k h l c xs ys ea na eb nb =
@@ -52,12 +56,14 @@ copied-more d la lb p q out k h l c xs ys ea na eb nb =
     value : getD q k 0 ≡ getD ys k 0
     value = ap (λ (z : List ℕ). getD z k 0) eb ∙ getD-pad 6 d ys k 0 (omega arith) (omega arith)
 
+-- all are there: the part of both formulas
 copied-all : (d : ℕ) (f : Token → ℕ) (ts us : List Token) (p q out : List ℕ) (la lb k : ℕ) → lb ≤ k → la ≡ length ts → lb ≡ length us
     → p ≡ padTo 6 d (map f ts) → q ≡ padTo 6 d (map f us) → Copied d la lb p q out k → out ≡ padTo 6 d (map f (ts ++ us))
 copied-all d f ts us p q out la lb k h na nb ea eb c =
     c (map f ts) (map f us) ea (length-map ts f ∙ sym na) eb (length-map us f ∙ sym nb)
     ∙ ap (padTo 6 d) (ap (λ (z : List ℕ). map f ts ++ z) (take-all k (map f us) (omega (arith, length-map us f))) ∙ sym (map-append f ts us))
 
+-- the text that `joined` writes
 pub joined : (a b r : Formula) (k : ℕ) → b .len ≤ k → r .len ≡ a .len + b .len
     → Copied 255 (a .len) (b .len) (a .ops) (b .ops) (r .ops) k → Copied 0 (a .len) (b .len) (a .operands) (b .operands) (r .operands) k → Joined a b r
 joined a b r k h el eo ep = record {

@@ -16,18 +16,21 @@ use Rattle.simd.specs.declared.Gate.the-variants.{Add, Mul}
 use Rattle.expr.specs.declared.Token.{Token}
 use Rattle.expr.specs.declared.Token.the-variants as T
 use Rattle.atoms.specs.Stock.{countUp, constants, ofVariable, gatesOf, differenceOf, stock}
+use Rattle.atoms.proofs.Stocks.{stock-few}
 use Rattle.entry.specs.declared.Cursor.{Cursor}
 use Rattle.entry.specs.declared.Cursor.the-variants.{Constant, Variable, Pair, Difference, Done}
 use Rattle.entry.specs.Cursor.{formOf, gateAt, skipped, differenceFrom, nextOf, firstOf, isDone, WithinVariable, WithinPair, WithinDifference, Within, Stands, variablesFrom, pairsOf, pairsFrom, differencesOf, differencesFrom, restOf}
 
 -- ---- what is left of a count
 module _ (f : ℕ → List (List Token)) where
+  -- the next number gives its formulas first
   from-step : (i nv : ℕ) → i < nv → flatMap f (countUp i (nv - i)) ≡ f i ++ flatMap f (countUp (suc i) (nv - suc i))
   unfolding flatMap countUp
   from-step i nv h =
       let e : nv - i ≡ suc (nv - suc i) = omega arith in
       ap (λ (m : ℕ). flatMap f (countUp i m)) e
 
+  -- past the last number nothing is left
   from-end : (i nv : ℕ) → nv ≤ i → flatMap f (countUp i (nv - i)) ≡ []
   unfolding flatMap countUp
   from-end i nv h =
@@ -45,6 +48,7 @@ first-rest nv w =
     (sub-zero nv)
 
 -- ---- the differences
+-- i with itself gives none, i with another one
 same-difference : (i j : ℕ) → eqb i j ≡ true → differenceOf i j ≡ []
 unfolding differenceOf
 same-difference i j e = rw (e, differenceOf)
@@ -53,6 +57,7 @@ one-difference : (i j : ℕ) → eqb i j ≡ false → differenceOf i j ≡ (T.V
 unfolding differenceOf
 one-difference i j e = rw (e, differenceOf)
 
+-- passing over i leaves the same formulas
 skip-rest : (nv i j : ℕ) → i < nv → differencesOf nv i j ≡ differencesOf nv i (skipped i j)
 skip-rest nv i j h = go (eqb i j) refl
   where
@@ -63,11 +68,13 @@ skip-rest nv i j h = go (eqb i j) refl
         ∙ ap (λ (m : ℕ). differencesOf nv i m) (sym (add-one j))
     go false e = refl
 
+-- the differences of variable i, then those of the next
 differences-row : (nv i : ℕ) → i < nv → differencesFrom nv i ≡ differencesOf nv i 0 ++ differencesFrom nv (suc i)
 differences-row nv i h =
     from-step (λ (k : ℕ). flatMap (differenceOf k) (countUp 0 nv)) i nv h
     ∙ ap (λ (m : ℕ). flatMap (differenceOf i) (countUp 0 m) ++ differencesFrom nv (suc i)) (sym (sub-zero nv))
 
+-- from the first difference at or after i and j on, all of them are left
 difference-rest : (nv w i j : ℕ) → i < nv → restOf nv w (differenceFrom nv i j) ≡ differencesOf nv i j ++ differencesFrom nv (suc i)
 unfolding differenceFrom restOf
 difference-rest nv w i j h = go (skipped i j) (skip-rest nv i j h) (le-or-lt nv (skipped i j)) (le-or-lt nv (i + 1))
@@ -85,6 +92,7 @@ difference-rest nv w i j h = go (skipped i j) (skip-rest nv i j h) (le-or-lt nv 
         ∙ from-end (λ (k : ℕ). flatMap (differenceOf k) (countUp 0 nv)) (suc i) nv (omega arith)))
 
 -- ---- the gates
+-- the gates from i on begin at i with itself
 pairs-rest : (nv w i : ℕ) → i < nv → pairsFrom nv i ++ differencesFrom nv 0 ≡ restOf nv w (Pair i i 0)
 unfolding restOf
 pairs-rest nv w i h =
@@ -92,6 +100,7 @@ pairs-rest nv w i h =
     ∙ append-assoc (gatesOf i i ++ pairsOf nv i (suc i)) (pairsFrom nv (suc i)) (differencesFrom nv 0)
     ∙ append-assoc (gatesOf i i) (pairsOf nv i (suc i)) (pairsFrom nv (suc i) ++ differencesFrom nv 0)
 
+-- after the last gate of i and j
 pair-rest : (nv w i j : ℕ) → i < nv
     → pairsOf nv i (suc j) ++ (pairsFrom nv (suc i) ++ differencesFrom nv 0)
     ≡ restOf nv w (cond (ltb (j + 1) nv) (Pair i (j + 1) 0) (cond (ltb (i + 1) nv) (Pair (i + 1) (i + 1) 0) (differenceFrom nv 0 0)))
@@ -116,6 +125,7 @@ pair-rest nv w i j h = go (le-or-lt nv (j + 1)) (le-or-lt nv (i + 1))
         ∙ differences-row nv 0 (omega arith) ∙ sym (difference-rest nv w 0 0 (omega arith)))
 
 -- ---- the variables
+-- after the last form of variable i
 variable-rest : (nv w i : ℕ) → i < nv
     → variablesFrom nv (suc i) ++ (pairsFrom nv 0 ++ differencesFrom nv 0) ≡ restOf nv w (cond (ltb (i + 1) nv) (Variable (i + 1) 0) (Pair 0 0 0))
 unfolding restOf
@@ -132,6 +142,7 @@ variable-rest nv w i h = go (le-or-lt nv (i + 1))
         (ap (λ (z : List (List Token)). z ++ (pairsFrom nv 0 ++ differencesFrom nv 0)) (from-end ofVariable (suc i) nv (omega arith)) ∙ pairs-rest nv w 0 (omega arith))
 
 -- ---- one step
+-- each place has one formula, and what follows is left at the next place
 step-rest : (nv w : ℕ) (c : Cursor) → 1 ≤ nv → Within nv c → isDone c ≡ false → restOf nv w c ≡ formOf w c ∷ restOf nv w (nextOf nv c)
 unfolding restOf formOf nextOf constants ofVariable gatesOf
 step-rest nv w (Constant zero) h l d = refl
@@ -160,6 +171,7 @@ step-rest nv w (Difference i j) h l d =
     (ap (λ (k : ℕ). differencesOf nv i k ++ differencesFrom nv (suc i)) (sym (add-one j)) ∙ sym (difference-rest nv w i (j + 1) (l .left)))
 step-rest nv w Done h l d = absurd (true-not-false d)
 
+-- the next place is a place
 difference-within : (nv i j : ℕ) → i < nv → Within nv (differenceFrom nv i j)
 unfolding differenceFrom
 difference-within nv i j h = go (skipped i j) (apart (eqb i j) refl) (le-or-lt nv (skipped i j)) (le-or-lt nv (i + 1))
@@ -201,15 +213,19 @@ next-within nv (Difference i j) h l = difference-within nv i (j + 1) (l .left)
 next-within nv Done h l = tt
 
 -- ---- what a loop over the stock needs
+-- the first place is one
 pub first-stands : (nv : ℕ) → 1 ≤ nv → nv ≤ 6 → Stands nv firstOf
 first-stands nv h l = record { least = h; most = l; within = omega arith }
 
+-- and so is the next
 pub next-stands : (nv : ℕ) (c : Cursor) → Stands nv c → Stands nv (nextOf nv c)
 next-stands nv c s = record { least = s .least; most = s .most; within = next-within nv c (s .least) (s .within) }
 
+-- the formulas from a place on are its own and those from the next place on
 pub next-rest : (nv w : ℕ) (c : Cursor) → Stands nv c → isDone c ≡ false → restOf nv w c ≡ formOf w c ∷ restOf nv w (nextOf nv c)
 next-rest nv w c s d = step-rest nv w c (s .least) (s .within) d
 
+-- at the end nothing is left
 pub done-rest : (nv w : ℕ) (c : Cursor) → isDone c ≡ true → restOf nv w c ≡ []
 unfolding restOf
 done-rest nv w (Constant k) d = absurd (true-not-false (sym d))
@@ -218,22 +234,12 @@ done-rest nv w (Pair i j k) d = absurd (true-not-false (sym d))
 done-rest nv w (Difference i j) d = absurd (true-not-false (sym d))
 done-rest nv w Done d = refl
 
--- 01, Bank: 157 formulas at six variables, fewer at fewer
-pub stock-few : (nv w : ℕ) → nv ≤ 6 → length (stock nv w) ≤ 157
-unfolding stock flatMap countUp constants ofVariable gatesOf differenceOf
-stock-few zero w h = omega arith
-stock-few (suc zero) w h = omega arith
-stock-few (suc (suc zero)) w h = omega arith
-stock-few (suc (suc (suc zero))) w h = omega arith
-stock-few (suc (suc (suc (suc zero)))) w h = omega arith
-stock-few (suc (suc (suc (suc (suc zero))))) w h = omega arith
-stock-few (suc (suc (suc (suc (suc (suc zero)))))) w h = omega arith
-stock-few (suc (suc (suc (suc (suc (suc (suc nv))))))) w h = absurd (omega arith)
-
+-- 01, Bank: at most 157 formulas
 pub first-few : (nv w : ℕ) → nv ≤ 6 → length (restOf nv w firstOf) ≤ 157
 first-few nv w h = rw (first-rest nv w) (stock-few nv w h)
 
 -- ---- what the code's tests tell
+-- the last arm of the gates
 pub gate-last : (k : ℕ) → (k ≡ 0 → ⊥) → (k ≡ 1 → ⊥) → (k ≡ 2 → ⊥) → (k ≡ 3 → ⊥) → Mul ≡ gateAt k
 gate-last zero a b c d = absurd (a refl)
 gate-last (suc zero) a b c d = absurd (b refl)

@@ -25,6 +25,16 @@ ghost use Rattle.entry.specs.Entry.{entryOf, leafOf, unaryToken, unaryOf
 ghost use Rattle.entry.specs.Cursor.{Stands, constantAt, variableAt, gateAt, formOf, skipped, differenceFrom, nextOf};
 ghost use Rattle.entry.specs.Seeding.{WithSeed};
 
+// Constants of the stock, the first of which are their own numbers: 0, 1, 2.
+const CONSTANTS: u32 = 4;
+
+const OWN_NUMBERS: u32 = 3;
+
+// Forms of each variable, and gates of each pair.
+const FORMS: u32 = 3;
+
+const GATES: u32 = 5;
+
 // ---- atoms
 
 // A formula of one token.
@@ -232,7 +242,7 @@ fn constant_at(w: u32, k: u32) -> Entry
     requires { ⌜ w ≤ 64 ⌝ }
     ensures { λ r. ⌜ IsConstant w (constantAt w k) r ⌝ }
 {
-    if k < 3 {
+    if k < OWN_NUMBERS {
         constant(w, k as u64)
     } else {
         constant(w, arith::bitmask(w))
@@ -313,7 +323,7 @@ fn next_variable(nv: u32, i: u32, k: u32) -> Cursor
     requires { ⌜ (i < 6) × (k < 3) ⌝ }
     ensures { λ r. ⌜ r ≡ nextOf nv (Place.Variable i k) ⌝ }
 {
-    if k + 1 < 3 {
+    if k + 1 < FORMS {
         return Cursor::Variable(i, k + 1);
     }
     if i + 1 < nv {
@@ -326,7 +336,7 @@ fn next_pair(nv: u32, i: u32, j: u32, k: u32) -> Cursor
     requires { ⌜ (i < 6) × ((j < 6) × (k < 5)) ⌝ }
     ensures { λ r. ⌜ r ≡ nextOf nv (Place.Pair i j k) ⌝ }
 {
-    if k + 1 < 5 {
+    if k + 1 < GATES {
         return Cursor::Pair(i, j, k + 1);
     }
     if j + 1 < nv {
@@ -345,7 +355,7 @@ pub fn next(at: Cursor, nv: u32) -> Cursor
 {
     match at {
         Cursor::Constant(k) => {
-            if k + 1 < 4 {
+            if k + 1 < CONSTANTS {
                 Cursor::Constant(k + 1)
             } else {
                 Cursor::Variable(0, 0)

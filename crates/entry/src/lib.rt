@@ -2,6 +2,7 @@
 pub mod inner;
 
 use expr::Cost;
+use simd::ROW_WORDS;
 ghost use mathlib.Core.Path.{_≡_};
 ghost use Rattle.atoms.specs.Stock.{orAll};
 ghost use Rattle.entry.specs.Cursor.{firstOf, isDone};
@@ -80,7 +81,7 @@ pub fn seeds_of(target: [u64; 16]) -> Seeds
     let mut s = inner::with_seed(none, or_all(target), 1);
     let most = s.count + SEED_WORDS;
     let mut i: usize = 0;
-    while i < 16 {
+    while i < ROW_WORDS {
         s = inner::with_seed(s, target[i], most);
         i += 1;
     }
@@ -92,7 +93,7 @@ fn or_all(target: [u64; 16]) -> u64
     ensures { λ r. ⌜ r ≡ orAll target ⌝ }
 {
     let mut all: u64 = 0;
-    let mut i: usize = 16;
+    let mut i: usize = ROW_WORDS;
     while 0 < i {
         i -= 1;
         all = target[i] | all;
