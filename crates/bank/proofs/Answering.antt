@@ -71,12 +71,14 @@ module _ (nv w : ℕ) (points : List Point) (target : List ℕ) (a : Arrays) (wo
       let s5 = neither (ltb (length (a .rows)) (16 * 479)) _ (s4 .second) in
       record {
         room = record {
-          lengths = long-enough _ _ (s1 .first);
-          ops = long-enough _ _ (s2 .first);
-          operands = long-enough _ _ (s3 .first);
-          costs = long-enough _ _ (s4 .first);
+          texts = record {
+            lengths = long-enough _ _ (s1 .first);
+            ops = long-enough _ _ (s2 .first);
+            operands = long-enough _ _ (s3 .first);
+            costs = long-enough _ _ (s4 .first);
+          };
+          rows = long-enough _ _ (s5 .first);
         };
-        rows = long-enough _ _ (s5 .first);
         area = long-enough _ _ (s5 .second);
       }
 

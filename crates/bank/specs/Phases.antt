@@ -7,7 +7,7 @@ use Rattle.probe.specs.declared.Point.{Point}
 use Rattle.atoms.specs.Bank.{Atom, turns}
 use Rattle.atoms.specs.Encoding.{Arrays}
 use Rattle.atoms.specs.Facts.{baseOf}
-use Rattle.pool.specs.Pool.{textsOf, Room, Ready, IsBank}
+use Rattle.pool.specs.Pool.{Room, Ready, IsBank}
 
 -- a count and a width that are not refused
 pub record Asked (nv w : ℕ) : Type 0 where
@@ -31,6 +31,5 @@ turnedOf nv w points = turns w points (Neg ∷ (Not ∷ [])) (baseOf nv w points
 
 -- 01, From heap ..: the sizes that a build needs
 pub record Fits (a : Arrays) (work : List ℕ) : Type 0 where
-  pub room : Room (textsOf a)
-  pub rows : 16 * 479 ≤ length (a .rows)
+  pub room : Room a
   pub area : 4 * 479 ≤ length work

@@ -1,6 +1,5 @@
 -- `bank::build_bank` meets its contract: a refusal leaves all as it was; else the tests that passed are what the build asks for. Assumes nothing.
 use mathlib.Core.Path.{sym, _∙_}
-use Prim.Native.Nat.{_-_}
 use native.Mathlib.Omega.{arith}
 use borrow.Author.Needs.{needs}
 use Rattle.pool.specs.Pool.{arrays}
@@ -14,19 +13,22 @@ bank-refusal-requires c κs = search needs
 returns : tie.Need-returns
 returns c =
     let s = c .before .before .before .before .before .before .before .before .args in
-    built-refused (s .nv) (s .w) (s .points) (s .target) (arrays (s .lengths .now) (s .ops .now) (s .operands .now) (s .costs .now) (s .rows .now)) (s .work .now) _ (c .before .bank-refusal .ensures) (c .if1 .taken)
+    let old = arrays (s .lengths .now) (s .ops .now) (s .operands .now) (s .costs .now) (s .rows .now) in
+    built-refused (s .nv) (s .w) (s .points) (s .target) old (s .work .now) _ (c .before .bank-refusal .ensures) (c .if1 .taken)
 
 build-requires : tie.Need-build-requires
 build-requires c κs =
     let s = c .before .before .before .before .before .before .before .before .before .before .before .before .before .before .args in
+    let old = arrays (s .lengths .now) (s .ops .now) (s .operands .now) (s .costs .now) (s .rows .now) in
     let e = sym (c .before .before .before .before .before .before .before .bank-refusal .ensures) ∙ c .before .before .before .before .before .before .if1 .left in
-    (build-asked (s .nv) (s .w) (s .points) (s .target) (arrays (s .lengths .now) (s .ops .now) (s .operands .now) (s .costs .now) (s .rows .now)) (s .work .now) e, build-fits (s .nv) (s .w) (s .points) (s .target) (arrays (s .lengths .now) (s .ops .now) (s .operands .now) (s .costs .now) (s .rows .now)) (s .work .now) e)
+    (build-asked (s .nv) (s .w) (s .points) (s .target) old (s .work .now) e, build-fits (s .nv) (s .w) (s .points) (s .target) old (s .work .now) e)
 
 cast-t33 : tie.Need-cast-t33
 cast-t33 c =
     let s = c .before .before .before .before .before .before .before .before .before .before .before .before .before .before .before .before .before .before .before .before .before .before .before .before .before .before .before .args in
+    let old = arrays (s .lengths .now) (s .ops .now) (s .operands .now) (s .costs .now) (s .rows .now) in
     let e = sym (c .before .before .before .before .before .before .before .before .before .before .before .before .before .before .before .before .before .before .before .before .bank-refusal .ensures) ∙ c .before .before .before .before .before .before .before .before .before .before .before .before .before .before .before .before .before .before .before .if1 .left in
-    omega (arith, built-few (s .nv) (s .w) (s .points) (s .target) (arrays (s .lengths .now) (s .ops .now) (s .operands .now) (s .costs .now) (s .rows .now)) (s .work .now) _ _ _ (build-asked (s .nv) (s .w) (s .points) (s .target) (arrays (s .lengths .now) (s .ops .now) (s .operands .now) (s .costs .now) (s .rows .now)) (s .work .now) e) (c .before .before .before .before .before .before .before .before .before .before .before .before .build .ensures))
+    omega (arith, built-few (s .nv) (s .w) (s .points) (s .target) old (s .work .now) _ _ _ (build-asked (s .nv) (s .w) (s .points) (s .target) old (s .work .now) e) (c .before .before .before .before .before .before .before .before .before .before .before .before .build .ensures))
 
 same-length : tie.Need-same-length
 same-length c = search needs
@@ -49,8 +51,9 @@ same-length-6 c = search needs
 returns-2 : tie.Need-returns-2
 returns-2 c =
     let s = c .before .before .before .before .before .before .before .before .before .before .before .before .before .before .before .before .before .before .before .before .before .before .before .before .before .before .before .args in
+    let old = arrays (s .lengths .now) (s .ops .now) (s .operands .now) (s .costs .now) (s .rows .now) in
     let e = sym (c .before .before .before .before .before .before .before .before .before .before .before .before .before .before .before .before .before .before .before .before .bank-refusal .ensures) ∙ c .before .before .before .before .before .before .before .before .before .before .before .before .before .before .before .before .before .before .before .if1 .left in
-    built-built (s .nv) (s .w) (s .points) (s .target) (arrays (s .lengths .now) (s .ops .now) (s .operands .now) (s .costs .now) (s .rows .now)) (s .work .now) _ _ _ e (c .before .before .before .before .before .before .before .before .before .before .before .before .build .ensures)
+    built-built (s .nv) (s .w) (s .points) (s .target) old (s .work .now) _ _ _ e (c .before .before .before .before .before .before .before .before .before .before .before .before .build .ensures)
 
 pub build-bank-spec : {M : Type 1} → statement M
 build-bank-spec =

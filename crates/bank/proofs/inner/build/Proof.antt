@@ -1,6 +1,5 @@
 -- `bank::inner::build` meets its contract: the three phases in a row, each over what the one before it left. Assumes nothing.
 use mathlib.Core.Path.{_∙_}
-use Prim.Native.Nat.{_-_}
 use native.Mathlib.Omega.{arith}
 use borrow.Author.Needs.{needs}
 use Rattle.atoms.specs.Facts.{baseOf}
@@ -17,13 +16,15 @@ push-stock-requires : tie.Need-push-stock-requires
 push-stock-requires c κs =
     let st = c .before .before .before .before .before .before .before .before .before .before .before .before .before .before .before .before in
     let s = st .args in
-    (st .pre .0, c .before .before .before .before .before .before .before .before .start .ensures .ready (arrays (s .lengths .now) (s .ops .now) (s .operands .now) (s .costs .now) (s .rows .now)) (st .pre .1 .room) (st .pre .1 .rows))
+    let old = arrays (s .lengths .now) (s .ops .now) (s .operands .now) (s .costs .now) (s .rows .now) in
+    (st .pre .0, c .before .before .before .before .before .before .before .before .start .ensures .ready old (st .pre .1 .room))
 
 push-turns-requires : tie.Need-push-turns-requires
 push-turns-requires c κs =
     let st = c .before .before .before .before .before .before .before .before .before .before .before .before .before .before .before .before .before .before .before .before .before .before .before .before .before .before .before .before .before .before .before .before .before .before .before in
     let s = st .args in
-    (st .pre .0, holding (arrays (s .lengths .now) (s .ops .now) (s .operands .now) (s .costs .now) (s .rows .now)) _ _ _ (baseOf (s .nv) (s .w) (s .points)) (c .before .before .before .before .before .before .before .before .before .before .before .before .before .before .before .before .before .before .push-stock .ensures))
+    let old = arrays (s .lengths .now) (s .ops .now) (s .operands .now) (s .costs .now) (s .rows .now) in
+    (st .pre .0, holding old _ _ _ (baseOf (s .nv) (s .w) (s .points)) (c .before .before .before .before .before .before .before .before .before .before .before .before .before .before .before .before .before .before .push-stock .ensures))
 
 push-seeds-requires : tie.Need-push-seeds-requires
 push-seeds-requires c κs =
@@ -52,7 +53,8 @@ same-length-6 c = omega (arith, c .before .before .before .before .before .befor
 returns : tie.Need-returns
 returns c =
     let s = c .before .before .before .before .before .before .before .before .before .before .before .before .before .before .before .before .before .before .before .before .before .before .before .before .before .before .before .before .before .before .before .before .before .before .before .before .before .before .before .before .before .before .before .before .before .before .before .before .before .before .before .before .before .before .before .before .before .before .before .before .before .before .before .before .before .before .before .args in
-    build-on (s .nv) (s .w) (s .points) (s .target) (arrays (s .lengths .now) (s .ops .now) (s .operands .now) (s .costs .now) (s .rows .now)) _ _ _ _ _ _ _ _ _ (c .before .before .before .before .before .before .before .before .before .before .before .before .before .before .before .before .before .before .before .before .before .before .before .before .before .before .before .before .before .before .before .before .before .before .before .before .before .before .before .before .before .before .before .before .before .before .before .before .before .before .push-stock .ensures) (c .before .before .before .before .before .before .before .before .before .before .before .before .before .before .before .before .before .before .before .before .before .before .before .before .before .before .before .before .before .before .before .push-turns .ensures) (c .before .before .before .before .before .before .before .before .before .before .before .before .push-seeds .ensures)
+    let old = arrays (s .lengths .now) (s .ops .now) (s .operands .now) (s .costs .now) (s .rows .now) in
+    build-on (s .nv) (s .w) (s .points) (s .target) old _ _ _ _ _ _ _ _ _ (c .before .before .before .before .before .before .before .before .before .before .before .before .before .before .before .before .before .before .before .before .before .before .before .before .before .before .before .before .before .before .before .before .before .before .before .before .before .before .before .before .before .before .before .before .before .before .before .before .before .before .push-stock .ensures) (c .before .before .before .before .before .before .before .before .before .before .before .before .before .before .before .before .before .before .before .before .before .before .before .before .before .before .before .before .before .before .before .push-turns .ensures) (c .before .before .before .before .before .before .before .before .before .before .before .before .push-seeds .ensures)
 
 pub build-spec : {M : Type 1} → statement M
 build-spec =

@@ -1,5 +1,4 @@
 -- `bank::inner::push_turn` meets its contract: what is loaded is the atom at the slot, and the two pushes are `turn`'s. Assumes nothing.
-use Prim.Native.Nat.{_-_}
 use native.Mathlib.Omega.{arith}
 use borrow.Author.Needs.{needs}
 use Rattle.pool.specs.Pool.{arrays}
@@ -11,33 +10,37 @@ load-entry-requires : tie.Need-load-entry-requires
 load-entry-requires c κs =
     let st = c .before .before .before .before .before .before .before .before .before .before .before in
     let s = st .args in
-    (turn-slot (s .nv) (s .w) (s .points) (s .slot .0) (st .pre .0 .0) (st .pre .0 .1), (st .pre .1 .ready .room, st .pre .1 .ready .rows))
+    (turn-slot (s .nv) (s .w) (s .points) (s .slot .0) (st .pre .0 .0) (st .pre .0 .1), st .pre .1 .ready .room)
 
 under-unary-requires : tie.Need-under-unary-requires
 under-unary-requires c κs =
     let st = c .before .before .before .before .before .before .before .before .before .before .before .before in
     let s = st .args in
-    turn-extends (s .nv) (s .w) (s .points) (s .slot .0) (st .pre .0 .0) (st .pre .0 .1) (arrays (s .lengths .now) (s .ops .now) (s .operands .now) (s .costs .now) (s .rows .now)) (s .work .now) (s .n) (st .pre .1) _ (c .load-entry .ensures)
+    let old = arrays (s .lengths .now) (s .ops .now) (s .operands .now) (s .costs .now) (s .rows .now) in
+    turn-extends (s .nv) (s .w) (s .points) (s .slot .0) (st .pre .0 .0) (st .pre .0 .1) old (s .work .now) (s .n) (st .pre .1) _ (c .load-entry .ensures)
 
 under-unary-requires-2 : tie.Need-under-unary-requires-2
 under-unary-requires-2 c κs =
     let st = c .before .before .before .before .before .before .before .before .before .before .before .before .before in
     let s = st .args in
-    turn-extends (s .nv) (s .w) (s .points) (s .slot .0) (st .pre .0 .0) (st .pre .0 .1) (arrays (s .lengths .now) (s .ops .now) (s .operands .now) (s .costs .now) (s .rows .now)) (s .work .now) (s .n) (st .pre .1) _ (c .before .load-entry .ensures)
+    let old = arrays (s .lengths .now) (s .ops .now) (s .operands .now) (s .costs .now) (s .rows .now) in
+    turn-extends (s .nv) (s .w) (s .points) (s .slot .0) (st .pre .0 .0) (st .pre .0 .1) old (s .work .now) (s .n) (st .pre .1) _ (c .before .load-entry .ensures)
 
 push-requires : tie.Need-push-requires
 push-requires c κs =
     let st = c .before .before .before .before .before .before .before .before .before .before .before .before .before .before .before .before .before .before .before .before in
     let s = st .args in
-    let room = turn-room (s .nv) (s .w) (s .points) (s .slot .0) (st .pre .0 .0) (st .pre .0 .1) (arrays (s .lengths .now) (s .ops .now) (s .operands .now) (s .costs .now) (s .rows .now)) (s .work .now) (s .n) (st .pre .1) in
+    let old = arrays (s .lengths .now) (s .ops .now) (s .operands .now) (s .costs .now) (s .rows .now) in
+    let room = turn-room (s .nv) (s .w) (s .points) (s .slot .0) (st .pre .0 .0) (st .pre .0 .1) old (s .work .now) (s .n) (st .pre .1) in
     (omega (arith, room), st .pre .1 .ready)
 
 push-requires-2 : tie.Need-push-requires-2
 push-requires-2 c κs =
     let st = c .before .before .before .before .before .before .before .before .before .before .before .before .before .before .before .before .before .before .before .before .before .before .before .before .before .before .before .before .before .before .before .before .before .before .before .before .before .before .before in
     let s = st .args in
+    let old = arrays (s .lengths .now) (s .ops .now) (s .operands .now) (s .costs .now) (s .rows .now) in
     let p = c .before .before .before .before .before .before .before .before .before .before .before .before .before .before .before .before .before .before .push in
-    let room = turn-room (s .nv) (s .w) (s .points) (s .slot .0) (st .pre .0 .0) (st .pre .0 .1) (arrays (s .lengths .now) (s .ops .now) (s .operands .now) (s .costs .now) (s .rows .now)) (s .work .now) (s .n) (st .pre .1) in
+    let room = turn-room (s .nv) (s .w) (s .points) (s .slot .0) (st .pre .0 .0) (st .pre .0 .1) old (s .work .now) (s .n) (st .pre .1) in
     (omega (arith, room, p .ensures .few), p .ensures .ready)
 
 same-length : tie.Need-same-length
@@ -62,7 +65,8 @@ returns : tie.Need-returns
 returns c =
     let st = c .before .before .before .before .before .before .before .before .before .before .before .before .before .before .before .before .before .before .before .before .before .before .before .before .before .before .before .before .before .before .before .before .before .before .before .before .before .before .before .before .before .before .before .before .before .before .before .before .before .before .before .before in
     let s = st .args in
-    turned (s .nv) (s .w) (s .points) (s .slot .0) (st .pre .0 .0) (st .pre .0 .1) (arrays (s .lengths .now) (s .ops .now) (s .operands .now) (s .costs .now) (s .rows .now)) (s .work .now) (s .n) (st .pre .1) _ (c .before .before .before .before .before .before .before .before .before .before .before .before .before .before .before .before .before .before .before .before .before .before .before .before .before .before .before .before .before .before .before .before .before .before .before .before .before .before .before .before .load-entry .ensures) _ _ _ _ _ _ _ _ (c .before .before .before .before .before .before .before .before .before .before .before .before .before .before .before .before .before .before .before .before .before .before .before .before .before .before .before .before .before .before .before .before .before .before .before .before .before .before .before .under-unary .ensures) (c .before .before .before .before .before .before .before .before .before .before .before .before .before .before .before .before .before .before .before .before .before .before .before .before .before .before .before .before .before .before .before .before .before .before .before .before .before .before .under-unary2 .ensures) (c .before .before .before .before .before .before .before .before .before .before .before .before .before .before .before .before .before .before .before .before .before .before .before .before .before .before .before .before .before .before .before .push .ensures) (c .before .before .before .before .before .before .before .before .before .before .before .before .push2 .ensures)
+    let old = arrays (s .lengths .now) (s .ops .now) (s .operands .now) (s .costs .now) (s .rows .now) in
+    turned (s .nv) (s .w) (s .points) (s .slot .0) (st .pre .0 .0) (st .pre .0 .1) old (s .work .now) (s .n) (st .pre .1) _ (c .before .before .before .before .before .before .before .before .before .before .before .before .before .before .before .before .before .before .before .before .before .before .before .before .before .before .before .before .before .before .before .before .before .before .before .before .before .before .before .before .load-entry .ensures) _ _ _ _ _ _ _ _ (c .before .before .before .before .before .before .before .before .before .before .before .before .before .before .before .before .before .before .before .before .before .before .before .before .before .before .before .before .before .before .before .before .before .before .before .before .before .before .before .under-unary .ensures) (c .before .before .before .before .before .before .before .before .before .before .before .before .before .before .before .before .before .before .before .before .before .before .before .before .before .before .before .before .before .before .before .before .before .before .before .before .before .before .under-unary2 .ensures) (c .before .before .before .before .before .before .before .before .before .before .before .before .before .before .before .before .before .before .before .before .before .before .before .before .before .before .before .before .before .before .before .push .ensures) (c .before .before .before .before .before .before .before .before .before .before .before .before .push2 .ensures)
 
 pub push-turn-spec : {M : Type 1} → statement M
 push-turn-spec =

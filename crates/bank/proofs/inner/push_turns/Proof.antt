@@ -14,7 +14,9 @@ use Rattle.bank.proofs.inner.push_turns.Tie as tie
 
 abbrev Inv-loop : tie.InvT-loop
 Inv-loop lengths₀ ops₀ operands₀ costs₀ rows₀ work₀ base nv w points n₀ k₀ lengths ops operands costs rows work n k =
-    (k ≤ base) × (Phase (arrays lengths₀ ops₀ operands₀ costs₀ rows₀) (arrays lengths ops operands costs rows) work n (beforeTurn nv w points k) × Kept (arrays lengths₀ ops₀ operands₀ costs₀ rows₀) (arrays lengths ops operands costs rows) work₀ work)
+    (k ≤ base)
+    × (Phase (arrays lengths₀ ops₀ operands₀ costs₀ rows₀) (arrays lengths ops operands costs rows) work n (beforeTurn nv w points k)
+    × Kept (arrays lengths₀ ops₀ operands₀ costs₀ rows₀) (arrays lengths ops operands costs rows) work₀ work)
 
 abbrev μ-loop : tie.MeasureT-loop
 μ-loop lengths₀ ops₀ operands₀ costs₀ rows₀ work₀ base nv w points n₀ k₀ lengths ops operands costs rows work n k = base - k
@@ -23,7 +25,8 @@ loop-holds : tie.Need-loop-holds Inv-loop μ-loop
 loop-holds c =
     let st = c .before .before .before .before .before .before in
     let s = st .args in
-    (omega arith, (turns-first (s .nv) (s .w) (s .points) (arrays (s .lengths .now) (s .ops .now) (s .operands .now) (s .costs .now) (s .rows .now)) (arrays (s .lengths .now) (s .ops .now) (s .operands .now) (s .costs .now) (s .rows .now)) (s .work .now) (s .base) 0 (st .pre .1), record { lengths = refl; ops = refl; operands = refl; costs = refl; rows = refl; work = refl }))
+    let old = arrays (s .lengths .now) (s .ops .now) (s .operands .now) (s .costs .now) (s .rows .now) in
+    (omega arith, (turns-first (s .nv) (s .w) (s .points) old old (s .work .now) (s .base) 0 (st .pre .1), record { lengths = refl; ops = refl; operands = refl; costs = refl; rows = refl; work = refl }))
 
 cast-t15 : tie.Need-cast-t15 Inv-loop μ-loop
 cast-t15 c =
@@ -35,9 +38,11 @@ push-turn-requires : tie.Need-push-turn-requires Inv-loop μ-loop
 push-turn-requires c κs =
     let st = c .before .before .before .before .before .before .before .before .before .before .before .before .before .before in
     let s = st .args in
+    let old = arrays (s .lengths .now) (s .ops .now) (s .operands .now) (s .costs .now) (s .rows .now) in
     let l = c .before .before .before .before .before .before .before .loop in
+    let now = arrays (l .lengths) (l .ops) (l .operands) (l .costs) (l .rows) in
     let t = c .before .before .before .before .before .before .loop-test in
-    ((omega (arith, t, st .pre .1 .bank .count), st .pre .0), holding (arrays (s .lengths .now) (s .ops .now) (s .operands .now) (s .costs .now) (s .rows .now)) (arrays (l .lengths) (l .ops) (l .operands) (l .costs) (l .rows)) (l .work) (l .n) (beforeTurn (s .nv) (s .w) (s .points) (l .k)) (l .inv .1 .0))
+    ((omega (arith, t, st .pre .1 .bank .count), st .pre .0), holding old now (l .work) (l .n) (beforeTurn (s .nv) (s .w) (s .points) (l .k)) (l .inv .1 .0))
 
 add-k : tie.Need-add-k Inv-loop μ-loop
 add-k c = search needs
@@ -49,14 +54,16 @@ loop-again : tie.Need-loop-again Inv-loop μ-loop
 loop-again c =
     let st = c .before .before .before .before .before .before .before .before .before .before .before .before .before .before .before .before .before .before .before .before .before .before .before .before .before .before .before in
     let s = st .args in
+    let old = arrays (s .lengths .now) (s .ops .now) (s .operands .now) (s .costs .now) (s .rows .now) in
     let l = c .before .before .before .before .before .before .before .before .before .before .before .before .before .before .before .before .before .before .before .before .loop in
+    let now = arrays (l .lengths) (l .ops) (l .operands) (l .costs) (l .rows) in
     let t = c .before .before .before .before .before .before .before .before .before .before .before .before .before .before .before .before .before .before .before .loop-test in
     let p = c .before .before .before .before .before .before .before .before .before .before .before .before .push-turn in
     let k = p .kept in
     let z = l .inv .1 .1 in (
       omega (arith, t),
       (
-        turns-further (s .nv) (s .w) (s .points) (arrays (s .lengths .now) (s .ops .now) (s .operands .now) (s .costs .now) (s .rows .now)) (arrays (l .lengths) (l .ops) (l .operands) (l .costs) (l .rows)) (l .work) (l .n) (l .k) _ _ _ (l .inv .1 .0) (p .ensures),
+        turns-further (s .nv) (s .w) (s .points) old now (l .work) (l .n) (l .k) _ _ _ (l .inv .1 .0) (p .ensures),
         record { lengths = k .0 ∙ z .lengths; ops = k .1 .0 ∙ z .ops; operands = k .1 .1 .0 ∙ z .operands; costs = k .1 .1 .1 .0 ∙ z .costs; rows = k .1 .1 .1 .1 .0 ∙ z .rows; work = k .1 .1 .1 .1 .1 .0 ∙ z .work },
       ),
     )
@@ -83,9 +90,11 @@ returns : tie.Need-returns Inv-loop μ-loop
 returns c =
     let st = c .before .before .before .before .before .before .before .before in
     let s = st .args in
+    let old = arrays (s .lengths .now) (s .ops .now) (s .operands .now) (s .costs .now) (s .rows .now) in
     let l = c .before .loop in
+    let now = arrays (l .lengths) (l .ops) (l .operands) (l .costs) (l .rows) in
     let e : l .k ≡ length (baseOf (s .nv) (s .w) (s .points)) = omega (arith, c .loop-test, l .inv .0, st .pre .1 .bank .count) in
-    subst (λ (m : ℕ). Phase (arrays (s .lengths .now) (s .ops .now) (s .operands .now) (s .costs .now) (s .rows .now)) (arrays (l .lengths) (l .ops) (l .operands) (l .costs) (l .rows)) (l .work) (l .n) (beforeTurn (s .nv) (s .w) (s .points) m)) e (l .inv .1 .0)
+    subst (λ (m : ℕ). Phase old now (l .work) (l .n) (beforeTurn (s .nv) (s .w) (s .points) m)) e (l .inv .1 .0)
 
 pub push-turns-spec : {M : Type 1} → statement M
 push-turns-spec =
