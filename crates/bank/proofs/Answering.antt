@@ -8,14 +8,13 @@ use native.Mathlib.Omega.{arith}
 use borrow.Author.Tests.{lt-ltb}
 use lib.Dec.{ltb}
 use lib.ListN.{length}
-use Rattle.arith.specs.Refusal.{refuse, unlessRefused, badCount, badWidth, Outcome, refused, answer, outcome}
+use Rattle.arith.specs.Refusal.{refuse, unlessRefused, badCount, badWidth, refused, answer, outcome}
 use Rattle.arith.proofs.Remainders.{le-or-lt}
 use Rattle.arith.proofs.Refusals.{true-not-false, within}
 use Rattle.probe.specs.declared.Point.{Point}
 use Rattle.atoms.specs.Encoding.{Arrays, written}
 use Rattle.atoms.specs.Stock.{bankOf}
 use Rattle.atoms.proofs.Banks.{bank-few}
-use Rattle.bank.specs.declared.Sizes.{Sizes}
 use Rattle.bank.specs.declared.BankAnswer.the-variants.{Built, Refused}
 use Rattle.bank.specs.Build.{sizesOf, tooSmall, reaches, pointsReach, bankRefusal, BankBuilt}
 use Rattle.bank.specs.Phases.{Asked, Phase, Fits}
@@ -26,6 +25,7 @@ record Passed (applies : Bool) (rest : ℕ) : Type 0 where
   here : applies ≡ false
   later : rest ≡ 0
 
+-- a row of refusals that comes to 0
 passed : (applies : Bool) (number rest : ℕ) → 0 < number → refuse applies number rest ≡ 0 → Passed applies rest
 passed true number rest h e = absurd (omega arith)
 passed false number rest h e = record { here = refl; later = e }
@@ -34,10 +34,12 @@ record Neither (a b : Bool) : Type 0 where
   first : a ≡ false
   second : b ≡ false
 
+-- a row of conditions none of which holds
 neither : (a b : Bool) → (a || b) ≡ false → Neither a b
 neither true b e = absurd (true-not-false e)
 neither false b e = record { first = refl; second = e }
 
+-- a length that is not too short
 long-enough : (n need : ℕ) → ltb n need ≡ false → need ≤ n
 long-enough n need e = go (le-or-lt need n)
   where
@@ -94,6 +96,7 @@ module _ (nv w : ℕ) (points : List Point) (target : List ℕ) (a : Arrays) (wo
   pub built-few : (a′ : Arrays) (work′ : List ℕ) (r : ℕ) → Asked nv w → Phase a a′ work′ r (bankOf nv w points target) → r ≤ 479
   built-few a′ work′ r asked p = omega (arith, p .bank .count, bank-few nv w points target (asked .most))
 
+  -- refused: all as it was
   pub built-refused : (n : ℕ) → n ≡ number → (n ≡ 0 → ⊥) → BankBuilt nv w points target a a work work (Refused n)
   built-refused n e h =
       let t : ltb 0 n ≡ true = lt-ltb 0 n (positive n h) in
@@ -110,6 +113,7 @@ module _ (nv w : ℕ) (points : List Point) (target : List ℕ) (a : Arrays) (wo
           go (inl l) = absurd (h (omega arith))
           go (inr l) = l
 
+  -- nothing refused: the bank over what was there
   pub built-built : (a′ : Arrays) (work′ : List ℕ) (r : ℕ) → number ≡ 0 → Phase a a′ work′ r (bankOf nv w points target) → BankBuilt nv w points target a a′ work work′ (Built r)
   built-built a′ work′ r e p = record {
     result = ap answer (p .bank .count) ∙ sym (ap (λ (m : ℕ). outcome m count) e);

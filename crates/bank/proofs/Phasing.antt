@@ -13,14 +13,13 @@ use Rattle.arith.specs.Parts.{encode}
 use Rattle.arith.proofs.Parts.{length-encode}
 use Rattle.expr.specs.declared.Token.{Token}
 use Rattle.expr.specs.declared.Token.the-variants.{Constant, Not, Neg}
-use Rattle.expr.specs.declared.Cost.{Cost}
 use Rattle.expr.specs.Cost.{Roomy}
 use Rattle.expr.proofs.Formulas.{cost-roomy}
 use Rattle.probe.specs.declared.Point.{Point}
-use Rattle.atoms.specs.Bank.{Atom, noAtom, atomOf, push, pushAll, turn, turns, built}
+use Rattle.atoms.specs.Bank.{Atom, noAtom, atomOf, push, pushAll, turn, built}
 use Rattle.atoms.specs.Encoding.{Arrays, spread, written, lengthPart, opsPart, operandsPart, costPart, rowPart}
 use Rattle.atoms.specs.Stock.{stock, seedsOf, bankOf}
-use Rattle.atoms.specs.Facts.{SoundAtom, baseOf, beforeTurn}
+use Rattle.atoms.specs.Facts.{baseOf, beforeTurn}
 use Rattle.atoms.proofs.Encodings.{written-none, length-wide, ops-wide, operands-wide, cost-wide, row-wide}
 use Rattle.atoms.proofs.Pushes.{pushAll-snoc, turns-none, turns-next, turn-two}
 use Rattle.atoms.proofs.Growth.{pushAll-grows, turn-grows, turns-grows, built-grows}
@@ -53,6 +52,7 @@ spread-over s part wide bank later old h =
     ∙ drop-drop d (s * length bank) old
     ∙ ap (λ (n : ℕ). drop n old) f)
 
+-- so in all five arrays
 written-over : (bank later : List Atom) (old : Arrays) → length bank ≤ length later → written later (written bank old) ≡ written later old
 written-over bank later old h = λ i. record {
   lengths = spread-over 1 lengthPart length-wide bank later (old .lengths) h i;
@@ -80,9 +80,11 @@ bank-over old a a′ n r bank later h b c = record {
   distinct = c .distinct;
 }
 
+-- what a phase leaves is what the next asks for
 pub holding : (old a : Arrays) (work : List ℕ) (n : ℕ) (bank : List Atom) → Phase old a work n bank → Holding a work n bank
 holding old a work n bank p = record { ready = p .ready; bank = bank-again old a n bank (p .bank) }
 
+-- two phases in a row, where the second bank is not shorter
 pub phase-on : (old a a′ : Arrays) (work work′ : List ℕ) (n r : ℕ) (bank later : List Atom) → length bank ≤ length later
     → Phase old a work n bank → Phase a a′ work′ r later → Phase old a′ work′ r later
 phase-on old a a′ work work′ n r bank later h p q = record { ready = q .ready; bank = bank-over old a a′ n r bank later h (p .bank) (q .bank) }
@@ -106,11 +108,13 @@ pub record Stocking (old a : Arrays) (work : List ℕ) (nv w : ℕ) (points : Li
   pub rest : pushAll w points atoms (restOf nv w at) ≡ baseOf nv w points
 
 module _ (old a : Arrays) (work : List ℕ) (nv w : ℕ) (points : List Point) (n : ℕ) (at : Cursor) where
+  -- there is room for a push
   pub stocking-few : Stocking old a work nv w points n at → n < 479
   stocking-few s =
       let g : length (s .atoms) ≤ length (baseOf nv w points) = subst (λ (l : List Atom). length (s .atoms) ≤ length l) (s .rest) (pushAll-grows w points (s .atoms) (restOf nv w at) .longer) in
       omega (arith, g, s .bank .count, base-few nv w points (s .stands .most))
 
+  -- nothing of the stock is left
   pub stocking-done : isDone at ≡ true → Stocking old a work nv w points n at → Phase old a work n (baseOf nv w points)
   unfolding pushAll
   stocking-done d s =
@@ -124,6 +128,7 @@ module _ (old a : Arrays) (work : List ℕ) (nv w : ℕ) (points : List Point) (
       ap length (next-rest nv w at s d) ∙ ap (λ (c : Cursor). suc (length (restOf nv w c))) (sym e) in
       omega (arith, f)
 
+  -- the formula at the place is pushed, and the cursor goes on
   pub stocking-more : (a′ : Arrays) (work′ : List ℕ) (e : Entry) (next : Cursor) (r : ℕ) → isDone at ≡ false → e ≡ entryOf (atomOf w points (formOf w at)) → next ≡ nextOf nv at
       → Pushed a a′ work′ n e r → Stocking old a work nv w points n at → Stocking old a′ work′ nv w points r next
   unfolding pushAll
@@ -142,6 +147,7 @@ module _ (old a : Arrays) (work : List ℕ) (nv w : ℕ) (points : List Point) (
 empty-bank : (a : Arrays) → IsBank a a 0 []
 empty-bank a = record { count = refl; arrays = sym (written-none a); wide = λ k l. absurd (omega arith); distinct = λ i j l m. absurd (omega arith) }
 
+-- before the first push
 pub stocking-none : (a : Arrays) (work : List ℕ) (nv w : ℕ) (points : List Point) (at : Cursor) → Asked nv w → at ≡ firstOf → Ready a work 0
     → Stocking a a work nv w points 0 at
 stocking-none a work nv w points at k e r = record {
@@ -167,9 +173,11 @@ module _ (nv w : ℕ) (points : List Point) (k : ℕ) (below : k < length (baseO
   abbrev form : List Token
   form = atom .form
 
+  -- the slot is below the count
   held : k < length bank
   held = omega (arith, below, turns-grows w points unaries (baseOf nv w points) 0 k .longer)
 
+  -- its atom is sound and of size at most 5
   fine : Fine nv w points 5 atom
   fine = before-turn-small nv w points k (omega (arith, below)) k below
 
@@ -178,6 +186,7 @@ module _ (nv w : ℕ) (points : List Point) (k : ℕ) (below : k < length (baseO
   unfolding atomOf
   own = λ i. record { form = form; cost = fine .sound .cost i; row = fine .sound .row i }
 
+  -- the slot is one of 479
   pub turn-slot : k < 479
   turn-slot = omega (arith, below, base-few nv w points (asked .most))
 
@@ -186,6 +195,7 @@ module _ (nv w : ℕ) (points : List Point) (k : ℕ) (below : k < length (baseO
   turn-room a work n h = omega (arith, h .bank .count, below, before-turn-few nv w points k (omega (arith, below)), base-few nv w points (asked .most))
 
   module _ (a : Arrays) (work : List ℕ) (n : ℕ) (h : Holding a work n bank) (e : Entry) (loaded : Loaded a k e) where
+    -- what was loaded is that atom
     is : e ≡ entryOf atom
     is = loaded .entry a bank (h .bank .arrays) held (h .bank .wide k held)
 
@@ -200,6 +210,7 @@ module _ (nv w : ℕ) (points : List Point) (k : ℕ) (below : k < length (baseO
       cost = subst Roomy (sym (ap (λ (z : Entry). z .cost) is ∙ fine .sound .cost)) (cost-roomy nv form (fine .sound .formula));
     }
 
+    -- what the two pushes leave
     pub turned : (a₁ a₂ : Arrays) (work₁ work₂ : List ℕ) (x y : Entry) (m r : ℕ) → UnderUnary w U.Neg e x → UnderUnary w U.Not e y
         → Pushed a a₁ work₁ n x m → Pushed a₁ a₂ work₂ m y r → Phase a a₂ work₂ r (turn w points (Neg ∷ (Not ∷ [])) bank k)
     turned a₁ a₂ work₁ work₂ x y m r nx ny px py =
@@ -214,12 +225,14 @@ module _ (nv w : ℕ) (points : List Point) (k : ℕ) (below : k < length (baseO
 
 -- ---- the turns
 module _ (nv w : ℕ) (points : List Point) (old a : Arrays) (work : List ℕ) (n k : ℕ) where
+  -- before the first turn
   pub turns-first : Holding a work n (baseOf nv w points) → Phase a a work n (beforeTurn nv w points 0)
   turns-first h = record {
     ready = h .ready;
     bank = subst (λ (l : List Atom). IsBank a a n l) (sym (turns-none w points unaries (baseOf nv w points) 0)) (h .bank);
   }
 
+  -- one turn more
   pub turns-further : (a′ : Arrays) (work′ : List ℕ) (r : ℕ) → Phase old a work n (beforeTurn nv w points k)
       → Phase a a′ work′ r (turn w points (Neg ∷ (Not ∷ [])) (beforeTurn nv w points k) k) → Phase old a′ work′ r (beforeTurn nv w points (k + 1))
   turns-further a′ work′ r p q =
@@ -231,6 +244,7 @@ module _ (nv w : ℕ) (points : List Point) (old a : Arrays) (work : List ℕ) (
 abbrev seedForm : ℕ → List Token
 seedForm v = Constant v ∷ []
 
+-- one seed more at the end
 seeds-snoc : (vs : List ℕ) (v : ℕ) → map seedForm (vs ++ (v ∷ [])) ≡ map seedForm vs ++ (seedForm v ∷ [])
 seeds-snoc [] v = refl
 seeds-snoc (x ∷ vs) v = ap (λ (l : List (List Token)). seedForm x ∷ l) (seeds-snoc vs v)
@@ -242,15 +256,18 @@ pub record Sowing (old a : Arrays) (work : List ℕ) (w turned : ℕ) (seeds : S
   pub bank : (points : List Point) (atoms : List Atom) → length points ≡ 16 → IsBank old old turned atoms
       → IsBank old a n (pushAll w points atoms (map (λ (v : ℕ). Constant v ∷ []) (take i (seeds .words))))
 
+-- at most 3 × 157 atoms before the seeds
 pub turned-few : (nv w : ℕ) (points : List Point) (a : Arrays) (work : List ℕ) (n : ℕ) → Asked nv w → Holding a work n (turnedOf nv w points) → n ≤ 471
 turned-few nv w points a work n asked h =
     omega (arith, h .bank .count, before-turn-few nv w points (length (baseOf nv w points)) (omega arith), base-few nv w points (asked .most))
 
 module _ (w turned : ℕ) (seeds : Seeds) (old a : Arrays) (work : List ℕ) (n i : ℕ) where
+  -- before the first seed
   pub sowing-none : Ready a work turned → Sowing a a work w turned seeds turned 0
   unfolding pushAll
   sowing-none r = record { few = omega arith; ready = r; bank = λ points atoms l b. b }
 
+  -- one seed pushed
   pub sowing-more : (a′ : Arrays) (work′ : List ℕ) (e : Entry) (r : ℕ) → i < length (seeds .words) → IsConstant w (getD (seeds .words) i 0) e
       → Pushed a a′ work′ n e r → Sowing old a work w turned seeds n i → Sowing old a′ work′ w turned seeds r (i + 1)
   sowing-more a′ work′ e r l c p s = record { few = omega (arith, s .few, p .few); ready = p .ready; bank = bank′ }
@@ -268,6 +285,7 @@ module _ (w turned : ℕ) (seeds : Seeds) (old a : Arrays) (work : List ℕ) (n 
           ∙ pushAll-snoc w points atoms (map seedForm (take i (seeds .words))) (seedForm v)))
           (p .bank old so (atomOf w points (seedForm v)) (c .is points long) (s .bank points atoms long b))
 
+  -- all seeds are pushed
   pub sowing-done : (nv : ℕ) (points : List Point) (target oldWork : List ℕ) → AreSeeds target seeds → i ≡ seeds .count → length points ≡ 16
       → Holding old oldWork turned (turnedOf nv w points) → Sowing old a work w turned seeds n i → Phase old a work n (bankOf nv w points target)
   unfolding bankOf built
@@ -278,6 +296,7 @@ module _ (w turned : ℕ) (seeds : Seeds) (old a : Arrays) (work : List ℕ) (n 
   }
 
 -- ---- the phases in a row
+-- the bank over what the arrays held before the stock
 pub build-on : (nv w : ℕ) (points : List Point) (target : List ℕ) (a₀ a₁ a₂ a₃ : Arrays) (work₁ work₂ work₃ : List ℕ) (base turned r : ℕ)
     → Phase a₀ a₁ work₁ base (baseOf nv w points) → Phase a₁ a₂ work₂ turned (turnedOf nv w points) → Phase a₂ a₃ work₃ r (bankOf nv w points target)
     → Phase a₀ a₃ work₃ r (bankOf nv w points target)

@@ -9,11 +9,6 @@ use lib.ListN.{take, drop}
 use Rattle.arith.specs.Refusal.{unlessRefused}
 use Rattle.arith.specs.Parts.{partAt}
 use Rattle.arith.proofs.Refusals.{refused-here, refused-later, or-here, or-later}
-use mathlib.Core.List.{[]}
-use Prim.Native.Nat.{ℕ, _+_, _-_, _*_}
-use lib.ListN.{take, drop}
-use Rattle.arith.specs.Refusal.{unlessRefused}
-use Rattle.arith.proofs.Refusals.{refused-here, refused-later}
 use Rattle.bank.proofs.atom_row.Statement.{statement}
 use Rattle.bank.proofs.atom_row.Tie as tie
 

@@ -1,6 +1,5 @@
 -- `bank::bank_refusal` meets its contract: the conditions in the table's order. Assumes nothing.
 use mathlib.Core.Path.{refl, sym, _∙_}
-use Prim.Native.Nat.{_-_}
 use borrow.Author.Needs.{needs}
 use Rattle.arith.proofs.Refusals.{refused-here, refused-later, or-here, or-later, within}
 use Rattle.bank.proofs.bank_refusal.Statement.{statement}

@@ -1,13 +1,7 @@
 -- `bank::find_row` meets its contract: the refusals in the table's order, then the least slot. Assumes nothing.
 use mathlib.Core.Path.{refl, sym, ap, _∙_}
-use Prim.Native.Nat.{ℕ, _-_}
+use Prim.Native.Nat.{ℕ}
 use borrow.Author.Needs.{needs}
-use borrow.Author.Tests.{lt-ltb, le-ltb}
-use Rattle.arith.specs.Refusal.{outcome}
-use Rattle.arith.proofs.Refusals.{refused-here, refused-later, within}
-use Rattle.bank.specs.Lookup.{leastFrom}
-use mathlib.Core.Path.{refl, sym, ap, _∙_}
-use Prim.Native.Nat.{ℕ, _-_}
 use borrow.Author.Tests.{lt-ltb, le-ltb}
 use Rattle.arith.specs.Refusal.{outcome}
 use Rattle.arith.proofs.Refusals.{refused-here, refused-later, within}

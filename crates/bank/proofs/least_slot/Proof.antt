@@ -6,11 +6,6 @@ use borrow.Author.Needs.{needs}
 use Rattle.arith.specs.Refusal.{answer}
 use Rattle.bank.specs.Lookup.{leastFrom}
 use Rattle.bank.proofs.Least.{least-here, least-later, least-none}
-use mathlib.Core.Path.{_≡_, sym, ap, _∙_}
-use Prim.Native.Nat.{ℕ, _-_, _≤_}
-use Rattle.arith.specs.Refusal.{answer}
-use Rattle.bank.specs.Lookup.{leastFrom}
-use Prim.Native.Nat.{_-_, _≤_}
 use Rattle.bank.proofs.least_slot.Statement.{statement}
 use Rattle.bank.proofs.least_slot.Tie as tie
 

@@ -8,10 +8,6 @@ use lib.Seq.{length-take-le, getD-take}
 use Rattle.arith.specs.Word.{modulus}
 use Rattle.bank.specs.Build.{reaches}
 use Rattle.bank.proofs.Reaching.{mask-lt, mask-le, reaches-here, reaches-later, reaches-none}
-use mathlib.Core.Path.{_≡_, refl, sym, _∙_}
-use Prim.Native.Nat.{_-_, _^_, _≤_, _<_}
-use Rattle.bank.specs.Build.{reaches}
-use Rattle.bank.proofs.Reaching.{mask-lt, mask-le, reaches-here, reaches-later, reaches-none}
 use Rattle.bank.proofs.point_reaches.Statement.{statement}
 use Rattle.bank.proofs.point_reaches.Tie as tie
 

@@ -6,11 +6,6 @@ use borrow.Author.Needs.{needs}
 use lib.ListN.{length, drop}
 use Rattle.bank.specs.Build.{pointsReach}
 use Rattle.bank.proofs.Reaching.{points-here, points-later, points-none}
-use mathlib.Core.Path.{_≡_, refl, sym, _∙_}
-use Prim.Native.Nat.{_-_, _^_, _≤_}
-use lib.ListN.{length, drop}
-use Rattle.bank.specs.Build.{pointsReach}
-use Rattle.bank.proofs.Reaching.{points-here, points-later, points-none}
 use Rattle.bank.proofs.points_reach.Statement.{statement}
 use Rattle.bank.proofs.points_reach.Tie as tie
 

@@ -7,11 +7,6 @@ use lib.ListN.{drop}
 use Rattle.arith.specs.Word.{modulus}
 use Rattle.bank.specs.Build.{reaches}
 use Rattle.bank.proofs.Reaching.{mask-lt, mask-le, reaches-here, reaches-later, reaches-none}
-use mathlib.Core.Path.{_≡_, refl, sym, _∙_}
-use Prim.Native.Nat.{_-_, _^_, _≤_}
-use lib.ListN.{drop}
-use Rattle.bank.specs.Build.{reaches}
-use Rattle.bank.proofs.Reaching.{mask-lt, mask-le, reaches-here, reaches-later, reaches-none}
 use Rattle.bank.proofs.row_reaches.Statement.{statement}
 use Rattle.bank.proofs.row_reaches.Tie as tie
 

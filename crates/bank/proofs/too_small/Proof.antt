@@ -1,11 +1,8 @@
 -- `bank::too_small` meets its contract, array by array. Assumes nothing.
 use mathlib.Core.Path.{refl, sym}
-use Prim.Native.Nat.{_-_}
 use borrow.Author.Needs.{needs}
 use borrow.Author.Tests.{lt-ltb, le-ltb}
 use Rattle.arith.proofs.Refusals.{or-here, or-later}
-use Prim.Native.Nat.{_-_}
-use borrow.Author.Tests.{lt-ltb, le-ltb}
 use Rattle.bank.proofs.too_small.Statement.{statement}
 use Rattle.bank.proofs.too_small.Tie as tie
 
