@@ -1,12 +1,9 @@
 // The phases of a bank build, over arrays that have been tested.
-use entry::Entry;
-use entry::Seeds;
 use entry::Unary;
 use pool::AtomSlot;
 use probe::Point;
-ghost use mathlib.Core.Path.{_≡_};
 ghost use mathlib.Core.List.{[], _∷_};
-ghost use Prim.Native.Nat.{_+_, _*_, _≤_, _<_};
+ghost use Prim.Native.Nat.{_<_};
 ghost use lib.ListN.{length};
 ghost use Rattle.expr.specs.declared.Token.the-variants.{Not, Neg};
 ghost use Rattle.atoms.specs.Bank.{turn};

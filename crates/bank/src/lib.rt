@@ -1,8 +1,7 @@
 // The bank: built into lent arrays, a row found in it, a row handed back.
-use entry::ATOM_TOKENS;
-
 pub mod inner;
 
+use entry::ATOM_TOKENS;
 use pool::ATOMS_MAX;
 use pool::AtomSlot;
 use pool::COST_NUMBERS;
@@ -10,12 +9,12 @@ use pool::WORK_WORDS;
 use probe::Point;
 use simd::ROW_WORDS;
 ghost use mathlib.Core.Path.{_≡_};
-ghost use Prim.Native.Nat.{_+_, _*_, _^_, _≤_, _<_};
+ghost use Prim.Native.Nat.{_*_, _^_, _≤_};
 ghost use lib.ListN.{length, take};
 ghost use Rattle.arith.specs.Refusal.{answer};
 ghost use Rattle.pool.specs.Pool.{arrays};
 ghost use Rattle.bank.specs.Build.{BankBuilt, tooSmall, reaches, pointsReach, bankRefusal};
-ghost use Rattle.bank.specs.Lookup.{tooFew, found, foundSays, handedBack, leastFrom};
+ghost use Rattle.bank.specs.Lookup.{found, foundSays, handedBack, leastFrom};
 
 // The lengths of the lent arrays.
 pub struct Sizes {
