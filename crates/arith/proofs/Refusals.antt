@@ -1,7 +1,7 @@
 -- Laws of refusals. Assumes nothing.
 use mathlib.Core.Path.{_≡_, ap, _∙_}
 use mathlib.Core.Logic.{_⊎_, inl, inr}
-use mathlib.Core.Bool.{Bool, true, false}
+use mathlib.Core.Bool.{Bool, true, false, _||_}
 use Prim.Native.Nat.{ℕ, _≤_, _<_}
 use native.Mathlib.Omega.{arith}
 use borrow.Author.Tests.{lt-ltb, le-ltb}
@@ -17,6 +17,13 @@ refused-here n rest e = ap (λ (x : Bool). refuse x n rest) e
 
 pub refused-later : {b : Bool} (n : ℕ) {rest m : ℕ} → b ≡ false → rest ≡ m → refuse b n rest ≡ m
 refused-later n {rest} e f = ap (λ (x : Bool). refuse x n rest) e ∙ f
+
+-- a row of conditions under one number: one of them, or those after it
+pub or-here : {a : Bool} (b : Bool) → a ≡ true → (a || b) ≡ true
+or-here b e = ap (λ (x : Bool). x || b) e
+
+pub or-later : {a : Bool} {b c : Bool} → a ≡ false → b ≡ c → (a || b) ≡ c
+or-later {a} {b} e f = ap (λ (x : Bool). x || b) e ∙ f
 
 -- what a range test that passed tells
 pub record Within (low high n : ℕ) : Type 0 where

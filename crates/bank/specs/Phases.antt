@@ -1,0 +1,35 @@
+-- The three phases of a bank build: the stock, the turns, the seeds. Assumes nothing.
+use mathlib.Core.List.{List, [], _∷_}
+use Prim.Native.Nat.{ℕ, _*_, _≤_}
+use lib.ListN.{length}
+use Rattle.expr.specs.declared.Token.the-variants.{Not, Neg}
+use Rattle.probe.specs.declared.Point.{Point}
+use Rattle.atoms.specs.Bank.{Atom, turns}
+use Rattle.atoms.specs.Encoding.{Arrays}
+use Rattle.atoms.specs.Facts.{baseOf}
+use Rattle.pool.specs.Pool.{Room, Ready, IsBank}
+
+-- a count and a width that are not refused
+pub record Asked (nv w : ℕ) : Type 0 where
+  pub least : 1 ≤ nv
+  pub most : nv ≤ 6
+  pub width : w ≤ 64
+
+-- the arrays hold a bank of n atoms, and a push may follow
+pub record Holding (a : Arrays) (work : List ℕ) (n : ℕ) (atoms : List Atom) : Type 0 where
+  pub ready : Ready a work n
+  pub bank : IsBank a a n atoms
+
+-- what a phase leaves: the arrays hold the bank over what they held before, and a push may follow
+pub record Phase (a a′ : Arrays) (work′ : List ℕ) (r : ℕ) (atoms : List Atom) : Type 0 where
+  pub ready : Ready a′ work′ r
+  pub bank : IsBank a a′ r atoms
+
+-- 01, Bank: then, for each of the atoms present at that moment, in slot order, Neg and Not
+abbrev pub turnedOf : ℕ → ℕ → List Point → List Atom
+turnedOf nv w points = turns w points (Neg ∷ (Not ∷ [])) (baseOf nv w points) 0 (length (baseOf nv w points))
+
+-- 01, From heap ..: the sizes that a build needs
+pub record Fits (a : Arrays) (work : List ℕ) : Type 0 where
+  pub room : Room a
+  pub area : 4 * 479 ≤ length work
