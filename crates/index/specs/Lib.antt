@@ -2,3 +2,5 @@
 pub mod Lists
 pub mod Index
 pub mod Facts
+pub mod Build
+pub mod Steps
