@@ -8,8 +8,8 @@ use native.Mathlib.Omega.{arith}
 use borrow.Rule.Slice.PartMut.{putMid}
 use lib.ListN.{length, set, take, drop, length-drop, drop-of-length-le}
 use lib.Pow.{pow-mono}
-use lib.Seq.{take-all, take-at, drop-at, drop-drop, length-take-le}
-use Rattle.valmap.specs.Map.{Searchable, Room, Inserted}
+use lib.Seq.{take-all, take-at, drop-at, length-take-le}
+use Rattle.valmap.specs.Map.{Inserted}
 use Rattle.index.specs.Steps.{bankArea, InsertedPair}
 
 -- the part from a on is all that lies there

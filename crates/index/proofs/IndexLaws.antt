@@ -2,8 +2,8 @@
 use mathlib.Core.Path.{_≡_, refl, sym, ap, ap₂, _∙_, subst}
 use mathlib.Core.Bool.{Bool, true, false}
 use mathlib.Core.Logic.{_⊎_, inl, inr}
-use mathlib.Core.List.{List, [], _∷_, _++_, map, flatMap, zipWith}
-use Prim.Native.Nat.{ℕ, zero, suc, _+_, _-_, _≤_, _<_}
+use mathlib.Core.List.{List, [], _∷_, _++_, zipWith}
+use Prim.Native.Nat.{ℕ, suc, _+_, _-_, _≤_, _<_}
 use native.Mathlib.Decide.{decLt}
 use native.Mathlib.Nat.{eq-or-lt-of-le}
 use native.Mathlib.Omega.{arith}
@@ -20,7 +20,7 @@ use Rattle.simd.proofs.Rows.{same-row-eq, same-row-refl}
 use Rattle.index.specs.Lists.{countUp, In}
 use Rattle.index.specs.Index.{Trial, Pair, Index, holds, firstC, trialsUpTo, trialsWith, trialsOfGate, trialsOf, trialRow, pairOf, rowsIn, listed, ended, tryPair, tryAll, noPairs, indexOf, addNew, allPairs}
 use Rattle.index.specs.Facts.{Holds, noPair, SoundPair, SoundPairs, NoneLost, IndexIsSound, AtMostLimit, UncutLosesNone, CutExactly, FirstOfAll, FirstPairs, AllAreSound, AllLoseNone}
-use Rattle.index.proofs.Lists.{false-true, bool-cases, in-left, in-right, in-split, in-map, map-in, in-flat, flat-in, in-count, count-in, in-at, in-place}
+use Rattle.index.proofs.Lists.{false-true, bool-cases, in-left, in-right, in-map, map-in, in-flat, flat-in, in-count, count-in, in-at, in-place}
 
 -- ---- rows that are held
 pub holds-in : (rs : List (List ℕ)) (r : List ℕ) → holds rs r ≡ true → In r rs

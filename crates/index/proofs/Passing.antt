@@ -1,7 +1,6 @@
 -- Laws of the refusals of a build: what is known where none applies. Assumes nothing.
-use mathlib.Core.Path.{_≡_, refl, sym, ap, _∙_}
+use mathlib.Core.Path.{_≡_, refl, sym}
 use mathlib.Core.Bool.{Bool, true, false, _||_}
-use mathlib.Core.Logic.{_⊎_, inl, inr}
 use Prim.Native.Nat.{ℕ, _+_, _*_, _/_, _≤_, _<_}
 use native.Mathlib.Nat.{div-lt-iff-lt-mul, mul-comm}
 use native.Mathlib.Omega.{arith}
@@ -10,7 +9,7 @@ use lib.Dec.{ltb}
 use Rattle.arith.specs.Refusal.{refuse, badWidth}
 use Rattle.arith.proofs.Refusals.{within}
 use Rattle.index.specs.Build.{atomsMax, limitMax, tooShort, refusalOf}
-use Rattle.index.proofs.Lists.{false-true, bool-cases}
+use Rattle.index.proofs.Lists.{false-true}
 
 pub or-last : {a b c d : Bool} (e : Bool) → a ≡ false → b ≡ false → c ≡ false → d ≡ false → e ≡ (a || (b || (c || (d || e))))
 or-last e p q r s = rw (p, q, r, s)

@@ -3,16 +3,13 @@ use mathlib.Core.Path.{_≡_, refl, sym, ap, _∙_, subst}
 use mathlib.Core.Bool.{Bool, true, false}
 use mathlib.Core.List.{List, [], _∷_, _++_}
 use Prim.Native.Nat.{ℕ, _+_, _*_, _≤_, _<_}
-use native.Mathlib.Nat.{mul-suc}
-use native.Mathlib.Numerals.{add-one}
 use native.Mathlib.Omega.{arith}
 use lib.ListN.{length, take, drop, length-append, length-drop}
 use lib.Seq.{drop-drop, length-take-le}
-use Rattle.arith.specs.Parts.{putPart, encode}
+use Rattle.arith.specs.Parts.{putPart}
 use Rattle.arith.proofs.Parts.{encode-add, drop-put, length-put}
 use Rattle.valmap.specs.Map.{Held, Searchable}
 use Rattle.valmap.proofs.MapLaws.{held-put-insert}
-use Rattle.simd.specs.declared.Gate.{Gate}
 use Rattle.index.specs.declared.inner.Job.{Job}
 use Rattle.index.specs.declared.inner.Tally.{Tally}
 use Rattle.index.specs.Index.{Trial, Pair, Index, holds, rowsOf, rowsIn, trialRow, pairOf, listed, ended, tryPair, tryAll}

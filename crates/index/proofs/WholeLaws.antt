@@ -1,22 +1,21 @@
 -- Laws of a whole build: it starts ready, what all trials leave is the index with its order list, and what the answer says. Assumes nothing.
 use mathlib.Core.Path.{_≡_, refl, sym, ap, ap₂, _∙_, subst}
-use mathlib.Core.Bool.{Bool, true, false, cond}
-use mathlib.Core.List.{List, [], _∷_, _++_}
+use mathlib.Core.Bool.{Bool, false, cond}
+use mathlib.Core.List.{List, _++_}
 use Prim.Native.Nat.{ℕ, _+_, _*_, _^_, _≤_, _<_}
 use native.Mathlib.Omega.{arith}
 use borrow.Author.Tests.{lt-ltb, le-ltb}
 use lib.ListN.{length, getD, take, drop, take-append-drop}
 use lib.Seq.{getD-take}
 use Rattle.arith.specs.Parts.{encode}
-use Rattle.arith.specs.Refusal.{unlessRefused, Outcome, refused, answer, outcome}
+use Rattle.arith.specs.Refusal.{unlessRefused, refused, answer}
 use Rattle.order.specs.Order.{firstWord, orderOf}
 use Rattle.order.proofs.OrderLaws.{order-same}
 use Rattle.index.specs.declared.inner.Job.{Job}
 use Rattle.index.specs.declared.inner.Tally.{Tally}
-use Rattle.index.specs.declared.IndexAnswer.{IndexAnswer}
 use Rattle.index.specs.declared.IndexAnswer.the-variants.{Built, Refused}
-use Rattle.index.specs.Index.{Pair, Index, allGates, rowsOf, rowsIn, trialsOf, tryAll, noPairs, indexOf}
-use Rattle.index.specs.Build.{pairPart, pairRow, Arrays, arraysOf, Summary, summaryOf, indexRefusal, lentIndex, IndexBuilt}
+use Rattle.index.specs.Index.{Pair, allGates, rowsOf, rowsIn, trialsOf, tryAll, noPairs, indexOf}
+use Rattle.index.specs.Build.{pairPart, pairRow, Arrays, Summary, indexRefusal, lentIndex, IndexBuilt}
 use Rattle.index.specs.Steps.{headRoom, Ready, Is, Ran, Prepared, Fits, Made}
 use Rattle.index.proofs.RowLaws.{length-rowsOf, rows-written}
 use Rattle.index.proofs.Passing.{Passed}

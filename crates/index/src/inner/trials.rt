@@ -154,25 +154,25 @@ fn try_pair(
     if maps::in_bank(work, rows, job.count, row, print) {
         return Tally {
             pairs: n,
-            cut: false,
+            cut: false, // the bank holds the row
         };
     }
     match maps::find_pair(work, job.bits, listed, n, row, print) {
         Lookup::At(_) => Tally {
             pairs: n,
-            cut: false,
+            cut: false, // a pair has the row
         },
         Lookup::Free(home) => {
             if n >= job.limit {
                 return Tally {
                     pairs: n,
-                    cut: true,
+                    cut: true, // the row is new, and there is no room
                 };
             }
             list_pair(work, pairs, listed, rows, job, n, home, g, b, c, row);
             Tally {
                 pairs: n + 1,
-                cut: false,
+                cut: false, // the row is new, and there was room
             }
         }
     }
