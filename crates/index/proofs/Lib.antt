@@ -1,0 +1,9 @@
+-- The laws of this crate, which the crates above cite too.
+pub mod Lists
+pub mod IndexLaws
+pub mod RowLaws
+pub mod StepLaws
+pub mod AreaLaws
+pub mod TrialLaws
+pub mod Passing
+pub mod WholeLaws

@@ -1,0 +1,114 @@
+-- Laws of membership and of counting up. Assumes nothing.
+use mathlib.Core.Path.{_≡_, refl, sym, ap, _∙_, subst}
+use mathlib.Core.Bool.{Bool, true, false}
+use mathlib.Core.Logic.{_⊎_, inl, inr}
+use mathlib.Core.List.{List, [], _∷_, _++_, map, flatMap}
+use Prim.Native.Nat.{ℕ, zero, suc, _+_, _≤_, _<_}
+use native.Mathlib.Nat.{eq-or-lt-of-le}
+use native.Mathlib.Omega.{arith}
+use lib.ListN.{getD, length}
+use Rattle.index.specs.Lists.{countUp, In}
+
+pub false-true : false ≡ true → ⊥
+false-true p = let z : _≡_ {A = ℕ} 0 1 = cc in omega arith
+
+pub bool-cases : (b : Bool) → (b ≡ true) ⊎ (b ≡ false)
+bool-cases true = inl refl
+bool-cases false = inr refl
+
+-- ---- membership
+pub in-left : {A : Type 0} (x : A) (xs ys : List A) → In x xs → In x (xs ++ ys)
+in-left x [] ys h = absurd h
+in-left x (y ∷ xs) ys (inl e) = inl e
+in-left x (y ∷ xs) ys (inr h) = inr (in-left x xs ys h)
+
+pub in-right : {A : Type 0} (x : A) (xs ys : List A) → In x ys → In x (xs ++ ys)
+in-right x [] ys h = h
+in-right x (y ∷ xs) ys h = inr (in-right x xs ys h)
+
+pub in-split : {A : Type 0} (x : A) (xs ys : List A) → In x (xs ++ ys) → In x xs ⊎ In x ys
+in-split x [] ys h = inr h
+in-split x (y ∷ xs) ys (inl e) = inl (inl e)
+in-split x (y ∷ xs) ys (inr h) = elim (in-split x xs ys h) [ inl l ↦ inl (inr l) | inr r ↦ inr r ]
+
+pub in-map : {A B : Type 0} (f : A → B) (x : A) (xs : List A) → In x xs → In (f x) (map f xs)
+in-map f x [] h = absurd h
+in-map f x (y ∷ xs) (inl e) = inl (ap f e)
+in-map f x (y ∷ xs) (inr h) = inr (in-map f x xs h)
+
+pub record Preimage {A B : Type 0} (f : A → B) (y : B) (xs : List A) : Type 0 where
+  pub of : A
+  pub is : y ≡ f of
+  pub at : In of xs
+
+pub map-in : {A B : Type 0} (f : A → B) (y : B) (xs : List A) → In y (map f xs) → Preimage f y xs
+map-in f y [] h = absurd h
+map-in f y (x ∷ xs) (inl e) = record { of = x; is = e; at = inl refl }
+map-in f y (x ∷ xs) (inr h) = let p = map-in f y xs h in record { of = p .of; is = p .is; at = inr (p .at) }
+
+pub in-flat : {A B : Type 0} (f : A → List B) (x : A) (y : B) (xs : List A) → In x xs → In y (f x) → In y (flatMap f xs)
+unfolding flatMap
+in-flat f x y [] h i = absurd h
+in-flat f x y (z ∷ xs) (inl e) i = in-left y (f z) (flatMap f xs) (subst (λ u. In y (f u)) e i)
+in-flat f x y (z ∷ xs) (inr h) i = in-right y (f z) (flatMap f xs) (in-flat f x y xs h i)
+
+pub record Source {A B : Type 0} (f : A → List B) (y : B) (xs : List A) : Type 0 where
+  pub of : A
+  pub within : In of xs
+  pub at : In y (f of)
+
+pub flat-in : {A B : Type 0} (f : A → List B) (y : B) (xs : List A) → In y (flatMap f xs) → Source f y xs
+unfolding flatMap
+flat-in f y [] h = absurd h
+flat-in f y (x ∷ xs) h = go (in-split y (f x) (flatMap f xs) h) (λ i. flat-in f y xs i)
+  where
+    go : In y (f x) ⊎ In y (flatMap f xs) → (In y (flatMap f xs) → Source f y xs) → Source f y (x ∷ xs)
+    go (inl i) rest = record { of = x; within = inl refl; at = i }
+    go (inr i) rest = let s = rest i in record { of = s .of; within = inr (s .within); at = s .at }
+
+-- ---- counting up
+pub in-count : (i n x : ℕ) → i ≤ x → x < i + n → In x (countUp i n)
+unfolding countUp
+in-count i zero x l h = absurd (omega arith)
+in-count i (suc n) x l h = go (eq-or-lt-of-le {n = i} {m = x} l) (λ m. in-count (suc i) n x m (omega arith))
+  where
+    go : (i ≡ x) ⊎ (i < x) → (i < x → In x (countUp (suc i) n)) → (x ≡ i) ⊎ In x (countUp (suc i) n)
+    go (inl e) rest = inl (sym e)
+    go (inr m) rest = inr (rest m)
+
+pub count-in : (i n x : ℕ) → In x (countUp i n) → (i ≤ x) × (x < i + n)
+unfolding countUp
+count-in i zero x h = absurd h
+count-in i (suc n) x (inl e) = (omega arith, omega arith)
+count-in i (suc n) x (inr h) = let p = count-in (suc i) n x h in (omega arith, omega arith)
+
+-- one more, and the rest
+pub count-add : (i m n : ℕ) → countUp i (m + n) ≡ countUp i m ++ countUp (i + m) n
+unfolding countUp
+count-add i zero n = ap (λ (k : ℕ). countUp i k) (omega-zero n) ∙ ap (λ (k : ℕ). countUp k n) (zero-omega i)
+  where
+    omega-zero : (n : ℕ) → 0 + n ≡ n
+    omega-zero n = omega arith
+
+    zero-omega : (i : ℕ) → i ≡ i + 0
+    zero-omega i = omega arith
+count-add i (suc m) n =
+    let e : suc m + n ≡ suc (m + n) = omega arith in
+    let f : suc i + m ≡ i + suc m = omega arith in
+    ap (λ (k : ℕ). countUp i k) e ∙ ap (λ (l : List ℕ). i ∷ l) (count-add (suc i) m n ∙ ap (λ (k : ℕ). countUp (suc i) m ++ countUp k n) f)
+
+-- ---- places
+pub in-at : {A : Type 0} (d : A) (xs : List A) (i : ℕ) → i < length xs → In (getD xs i d) xs
+in-at d [] i h = absurd (omega arith)
+in-at d (x ∷ xs) zero h = inl refl
+in-at d (x ∷ xs) (suc i) h = inr (in-at d xs i (omega arith))
+
+pub record Place {A : Type 0} (d x : A) (xs : List A) : Type 0 where
+  pub i : ℕ
+  pub below : i < length xs
+  pub is : getD xs i d ≡ x
+
+pub in-place : {A : Type 0} (d x : A) (xs : List A) → In x xs → Place d x xs
+in-place d x [] h = absurd h
+in-place d x (y ∷ xs) (inl e) = record { i = 0; below = omega arith; is = sym e }
+in-place d x (y ∷ xs) (inr h) = let p = in-place d x xs h in record { i = suc (p .i); below = omega (arith, p .below); is = p .is }

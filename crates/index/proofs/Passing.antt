@@ -1,0 +1,62 @@
+-- Laws of the refusals of a build: what is known where none applies. Assumes nothing.
+use mathlib.Core.Path.{_≡_, refl, sym}
+use mathlib.Core.Bool.{Bool, true, false, _||_}
+use Prim.Native.Nat.{ℕ, _+_, _*_, _/_, _≤_, _<_}
+use native.Mathlib.Nat.{div-lt-iff-lt-mul, mul-comm}
+use native.Mathlib.Omega.{arith}
+use borrow.Author.Tests.{ltb-false}
+use lib.Dec.{ltb}
+use Rattle.arith.specs.Refusal.{refuse, badWidth}
+use Rattle.arith.proofs.Refusals.{within}
+use Rattle.index.specs.Build.{atomsMax, limitMax, tooShort, refusalOf}
+use Rattle.index.proofs.Lists.{false-true}
+
+pub or-last : {a b c d : Bool} (e : Bool) → a ≡ false → b ≡ false → c ≡ false → d ≡ false → e ≡ (a || (b || (c || (d || e))))
+or-last e p q r s = rw (p, q, r, s)
+
+-- a test that did not refuse, and the rest of the row
+passed : (b : Bool) (number rest : ℕ) → 0 < number → refuse b number rest ≡ 0 → (b ≡ false) × (rest ≡ 0)
+passed true number rest h e = absurd (omega arith)
+passed false number rest h e = (refl, e)
+
+neither : (a b : Bool) → (a || b) ≡ false → (a ≡ false) × (b ≡ false)
+neither true b e = absurd (false-true (sym e))
+neither false b e = (refl, e)
+
+-- a length that is enough
+enough : (s n k : ℕ) → 0 < s → ltb (n / s) k ≡ false → s * k ≤ n
+enough s n k h e = elim (native.Mathlib.Decide.decLt n (k * s)) [
+  | yes l ↦ absurd (omega (arith, ltb-false (n / s) k e, div-lt-iff-lt-mul {k = s} {x = n} {y = k} h .1 l))
+  | no m ↦ omega (arith, mul-comm k s)
+]
+
+pub record Passed (w count L rows pairs pairRows order work : ℕ) : Type 0 where
+  pub width : w ≤ 64
+  pub few : count ≤ atomsMax
+  pub atoms : 16 * count ≤ rows
+  pub most : L ≤ limitMax
+  pub pairs-fit : 3 * L ≤ pairs
+  pub rows-fit : 16 * L ≤ pairRows
+  pub order-fit : L ≤ order
+  pub area : 4 * (L + atomsMax) ≤ work
+
+pub none-refused : (w count L rows pairs pairRows order work : ℕ) → refusalOf w count L rows pairs pairRows order work ≡ 0 → Passed w count L rows pairs pairRows order work
+none-refused w count L rows pairs pairRows order work e =
+    let wide = passed (badWidth w) 2 _ (omega arith) e in
+    let most = passed (ltb limitMax L) 3 _ (omega arith) (wide .1) in
+    let short = passed (tooShort count L rows pairs pairRows order work) 4 _ (omega arith) (most .1) in
+    let few = passed (ltb atomsMax count) 7 0 (omega arith) (short .1) in
+    let one = neither (ltb (rows / 16) count) _ (short .0) in
+    let two = neither (ltb (pairs / 3) L) _ (one .1) in
+    let three = neither (ltb (pairRows / 16) L) _ (two .1) in
+    let four = neither (ltb order L) _ (three .1) in
+    record {
+      width = within 1 64 w (wide .0) .most;
+      few = ltb-false _ _ (few .0);
+      atoms = enough 16 rows count (omega arith) (one .0);
+      most = ltb-false _ _ (most .0);
+      pairs-fit = enough 3 pairs L (omega arith) (two .0);
+      rows-fit = enough 16 pairRows L (omega arith) (three .0);
+      order-fit = ltb-false _ _ (four .0);
+      area = enough 4 work (L + atomsMax) (omega arith) (four .1);
+    }

@@ -1,0 +1,62 @@
+-- `index::inner::maps::map_bits` meets its contract: there are 2^bits heads, and room for them. Assumes nothing.
+use mathlib.Core.Path.{_≡_}
+use Prim.Native.Nat.{_+_, _-_, _*_, _^_, _≤_}
+use native.Mathlib.Omega.{arith}
+use borrow.Author.Needs.{needs}
+use Rattle.index.proofs.AreaLaws.{doubled, few-bits}
+use mathlib.Core.Path.{_≡_}
+use Prim.Native.Nat.{_+_, _-_, _*_, _^_, _≤_}
+use Rattle.index.proofs.inner.maps.map_bits.Statement.{statement}
+use Rattle.index.proofs.inner.maps.map_bits.Tie as tie
+
+abbrev Inv-loop : tie.InvT-loop
+Inv-loop limit room heads₀ bits₀ heads bits = ((heads ≡ 2 ^ bits) × (heads ≤ room)) × ((bits ≤ 31) × (1 ≤ heads))
+
+abbrev μ-loop : tie.MeasureT-loop
+μ-loop limit room heads₀ bits₀ heads bits = room - heads
+
+mul-room : tie.Need-mul-room Inv-loop μ-loop
+mul-room c = search needs
+
+add-room : tie.Need-add-room Inv-loop μ-loop
+add-room c = search needs
+
+loop-holds : tie.Need-loop-holds Inv-loop μ-loop
+loop-holds c = search needs
+
+mul-loop : tie.Need-mul-loop Inv-loop μ-loop
+mul-loop c = search needs
+
+mul-heads : tie.Need-mul-heads Inv-loop μ-loop
+mul-heads c = search needs
+
+add-bits : tie.Need-add-bits Inv-loop μ-loop
+add-bits c = search needs
+
+loop-less : tie.Need-loop-less Inv-loop μ-loop
+loop-less c = search needs
+
+loop-again : tie.Need-loop-again Inv-loop μ-loop
+loop-again c =
+    let l = c .before .loop in
+    let e = doubled (l .bits) (l .heads) (l .inv .0 .0) in
+    ((e, omega arith), (few-bits (l .bits + 1) (3 * c .before .before .args .limit + 413) (omega (arith, e)) (omega arith), omega arith))
+
+returns : tie.Need-returns Inv-loop μ-loop
+returns c = search needs
+
+pub map-bits-spec : {M : Type 1} → statement M
+map-bits-spec =
+    tie.close
+    (tie.spec
+    Inv-loop
+    μ-loop
+    mul-room
+    add-room
+    loop-holds
+    mul-loop
+    mul-heads
+    add-bits
+    loop-less
+    loop-again
+    returns)

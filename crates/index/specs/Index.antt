@@ -1,0 +1,133 @@
+-- The pair index of a bank. "Bank", "atom", "row", "pair", "index" and "cut" are 01's terms: an atom is one of the bank's rows here, and a pair is a gate
+-- of two atoms with the row that it gives. The gates are a parameter. Assumes nothing.
+use mathlib.Core.Bool.{Bool, true, false}
+use mathlib.Core.List.{List, [], _∷_, _++_, map, flatMap}
+use Prim.Native.Nat.{ℕ, zero, suc, _-_}
+use lib.Dec.{ltb}
+use lib.ListN.{getD, length}
+use Rattle.arith.specs.Parts.{partAt}
+use Rattle.simd.specs.Gates.{gateRow, sameRow}
+use Rattle.simd.specs.declared.Gate.{Gate}
+use Rattle.simd.specs.declared.Gate.the-variants.{And, Or, Xor, Add, Mul}
+use Rattle.index.specs.Lists.{countUp}
+
+-- 01, Calls over a lent bank work on its contents as they are: the first n rows of a lent array, words at or above 2^w too
+unfoldable pub rowsOf : ℕ → List ℕ → List (List ℕ)
+unfolding partAt
+rowsOf zero rows = []
+rowsOf (suc n) rows = rowsOf n rows ++ (partAt 16 rows n ∷ [])
+
+-- the row is one of the rows, in all its words
+unfoldable pub holds : List (List ℕ) → List ℕ → Bool
+unfolding sameRow
+holds [] row = false
+holds (x ∷ rows) row = elim (sameRow x row) [ true ↦ true | false ↦ holds rows row ]
+
+pub record Trial : Type 0 where
+  pub gate : Gate
+  pub b : ℕ
+  pub c : ℕ
+
+pub record Pair : Type 0 where
+  pub gate : Gate
+  pub b : ℕ
+  pub c : ℕ
+  pub row : List ℕ
+
+-- 01, Index: the mark "cut" is added by design
+pub record Index : Type 0 where
+  pub pairs : List Pair
+  pub cut : Bool
+
+-- 01, Index: gates in number order
+unfoldable pub allGates : List Gate
+allGates = And ∷ (Or ∷ (Xor ∷ (Add ∷ (Mul ∷ []))))
+
+-- 01, Index: c from b upward, b = c passed over for And and Or
+unfoldable pub firstC : Gate → ℕ → ℕ
+firstC And b = suc b
+firstC Or b = suc b
+firstC Xor b = b
+firstC Add b = b
+firstC Mul b = b
+
+-- the first k trials of a gate with atom b
+unfoldable pub trialsUpTo : Gate → ℕ → ℕ → List Trial
+unfolding countUp firstC
+trialsUpTo g b k = map (λ (c : ℕ). record { gate = g; b = b; c = c }) (countUp (firstC g b) k)
+
+-- the trials of a gate with atom b, of n atoms
+unfoldable pub trialsWith : ℕ → Gate → ℕ → List Trial
+unfolding trialsUpTo
+trialsWith n g b = trialsUpTo g b (n - firstC g b)
+
+-- 01, Index: b ascending
+unfoldable pub trialsOfGate : ℕ → Gate → List Trial
+unfolding flatMap countUp trialsWith
+trialsOfGate n g = flatMap (trialsWith n g) (countUp 0 n)
+
+-- 01, Index: all trials, of n atoms under a list of gates, in order
+unfoldable pub trialsOf : List Gate → ℕ → List Trial
+unfolding flatMap trialsOfGate
+trialsOf gates n = flatMap (trialsOfGate n) gates
+
+-- 01, Built means: under a gate an atom stands for its row
+unfoldable pub trialRow : ℕ → List (List ℕ) → Trial → List ℕ
+unfolding gateRow
+trialRow w bank t = gateRow (t .gate) w (getD bank (t .b) []) (getD bank (t .c) [])
+
+abbrev pub pairOf : ℕ → List (List ℕ) → Trial → Pair
+pairOf w bank t = record { gate = t .gate; b = t .b; c = t .c; row = trialRow w bank t }
+
+unfoldable pub rowsIn : List Pair → List (List ℕ)
+rowsIn pairs = map (λ (p : Pair). p .row) pairs
+
+-- an index with one pair more, and an index that ended
+abbrev pub listed : Index → Pair → Index
+listed index p = record { pairs = index .pairs ++ (p ∷ []); cut = false }
+
+abbrev pub ended : Index → Index
+ended index = record { pairs = index .pairs; cut = true }
+
+-- 01, Index: a row held by bank or index is skipped; a new row when L pairs are listed ends the build, and nothing else sets the mark
+unfoldable pub tryPair : ℕ → ℕ → List (List ℕ) → Index → Trial → Index
+unfolding holds rowsIn trialRow
+tryPair w L bank index t =
+    elim (index .cut) [
+      | true ↦ index
+      | false ↦ elim (holds bank (trialRow w bank t)) [
+        | true ↦ index
+        | false ↦ elim (holds (rowsIn (index .pairs)) (trialRow w bank t)) [
+          | true ↦ index
+          | false ↦ elim (ltb (length (index .pairs)) L) [ true ↦ listed index (pairOf w bank t) | false ↦ ended index ]
+        ]
+      ]
+    ]
+
+unfoldable pub tryAll : ℕ → ℕ → List (List ℕ) → Index → List Trial → Index
+unfolding tryPair
+tryAll w L bank index [] = index
+tryAll w L bank index (t ∷ ts) = tryAll w L bank (tryPair w L bank index t) ts
+
+abbrev pub noPairs : Index
+noPairs = record { pairs = []; cut = false }
+
+-- 01, Index: the index of a bank with the limit L
+unfoldable pub indexOf : ℕ → ℕ → List Gate → List (List ℕ) → Index
+unfolding tryAll trialsOf
+indexOf w L gates bank = tryAll w L bank noPairs (trialsOf gates (length bank))
+
+-- `seen`, and after it a pair for each row that neither bank nor `seen` holds, each row once
+unfoldable pub addNew : ℕ → List (List ℕ) → List Pair → List Trial → List Pair
+unfolding holds rowsIn trialRow
+addNew w bank seen [] = seen
+addNew w bank seen (t ∷ ts) =
+    elim (holds bank (trialRow w bank t)) [
+      | true ↦ addNew w bank seen ts
+      | false ↦ elim (holds (rowsIn seen) (trialRow w bank t)) [ true ↦ addNew w bank seen ts | false ↦ addNew w bank (seen ++ (pairOf w bank t ∷ [])) ts ]
+    ]
+
+-- 01, Uncut means: the rows that the gates give over the bank's atoms and that the bank doesn't hold, each counted once. No limit and no mark
+unfoldable pub allPairs : ℕ → List Gate → List (List ℕ) → List Pair
+unfolding addNew trialsOf
+allPairs w gates bank = addNew w bank [] (trialsOf gates (length bank))
