@@ -110,15 +110,9 @@ fn append(
 {
     let text = e.text;
     let cost = e.cost;
-    write_text(
-        lengths,
-        ops,
-        operands,
-        costs,
-        AtomSlot(n as u32),
-        text,
-        cost,
-    );
+    let last = n as u32;
+    let slot = AtomSlot(last);
+    write_text(lengths, ops, operands, costs, slot, text, cost);
     let at = ROW_WORDS * n;
     let row = e.row;
     simd::inner::write_row(&mut rows[at..at + ROW_WORDS], row);

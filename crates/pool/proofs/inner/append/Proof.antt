@@ -1,7 +1,7 @@
 -- `pool::inner::append` meets its contract: the parts of slot n are put, and the map takes the row that was written there. Assumes nothing.
 use mathlib.Core.Path.{_≡_, sym, ap, _∙_}
 use mathlib.Core.List.{List}
-use Prim.Native.Nat.{ℕ, _-_}
+use Prim.Native.Nat.{ℕ}
 use native.Mathlib.Omega.{arith}
 use borrow.Author.Needs.{needs}
 use lib.ListN.{length}
@@ -10,19 +10,11 @@ use Rattle.arith.proofs.Parts.{put-is}
 use Rattle.valmap.proofs.MapLaws.{home-small, held-put-insert}
 use Rattle.pool.specs.Pool.{arrays, texts}
 use Rattle.pool.proofs.Pushing.{rows-with, room-kept}
-use mathlib.Core.Path.{_≡_, sym, ap, _∙_}
-use Prim.Native.Nat.{ℕ, _-_}
-use lib.ListN.{length}
-use Rattle.arith.proofs.Parts.{put-is}
-use Rattle.valmap.proofs.MapLaws.{home-small, held-put-insert}
-use Rattle.pool.specs.Pool.{arrays, texts}
-use Rattle.pool.proofs.Pushing.{rows-with, room-kept}
-use mathlib.Core.Path.{_≡_, ap, _∙_}
 use Rattle.pool.proofs.inner.append.Statement.{statement}
 use Rattle.pool.proofs.inner.append.Tie as tie
 
-cast-t23 : tie.Need-cast-t23
-cast-t23 c = search needs
+cast-last : tie.Need-cast-last
+cast-last c = search needs
 
 write-text-requires : tie.Need-write-text-requires
 write-text-requires c κs = search needs
@@ -102,7 +94,7 @@ pub append-spec : {M : Type 1} → statement M
 append-spec =
     tie.close
     (tie.spec
-    cast-t23
+    cast-last
     write-text-requires
     mul-at
     add-write-row

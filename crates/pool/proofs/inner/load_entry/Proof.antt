@@ -1,5 +1,4 @@
 -- `pool::inner::load_entry` meets its contract: the five parts of a slot are those of the atom there. Assumes nothing.
-use Prim.Native.Nat.{_-_}
 use borrow.Author.Needs.{needs}
 use Rattle.pool.specs.Pool.{arrays}
 use Rattle.pool.proofs.Pushing.{loaded}

@@ -1,11 +1,6 @@
 -- `pool::inner::push` meets its contract: the map finds the slot that `push` finds in the list, and each arm does there what `push` does. Assumes nothing.
-use Prim.Native.Nat.{_-_}
 use native.Mathlib.Omega.{arith}
 use borrow.Author.Needs.{needs}
-use Rattle.valmap.proofs.MapLaws.{lookup-at, lookup-free}
-use Rattle.pool.specs.Pool.{arrays, texts}
-use Rattle.pool.proofs.Pushing.{room-kept, pushed-held, pushed-new}
-use Prim.Native.Nat.{_-_}
 use Rattle.valmap.proofs.MapLaws.{lookup-at, lookup-free}
 use Rattle.pool.specs.Pool.{arrays, texts}
 use Rattle.pool.proofs.Pushing.{room-kept, pushed-held, pushed-new}

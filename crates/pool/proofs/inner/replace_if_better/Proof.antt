@@ -1,7 +1,6 @@
 -- `pool::inner::replace_if_better` meets its contract: the cost that it compares with is the one at the slot. Assumes nothing.
 use mathlib.Core.Path.{sym, ap, _∙_}
 use mathlib.Core.Bool.{Bool, cond}
-use Prim.Native.Nat.{_-_}
 use borrow.Author.Needs.{needs}
 use Rattle.expr.specs.Cost.{isBetter}
 use Rattle.pool.specs.Pool.{texts, putText}

@@ -1,5 +1,4 @@
 -- `pool::inner::start` meets its contract: a cleared map is the map of no rows. Assumes nothing.
-use Prim.Native.Nat.{_-_}
 use borrow.Author.Needs.{needs}
 use Rattle.pool.proofs.Pushing.{started}
 use Rattle.pool.proofs.inner.start.Statement.{statement}

@@ -1,6 +1,5 @@
 -- `pool::parts::load_cost` meets its contract: it reads the three numbers of the slot. Assumes nothing.
 use mathlib.Core.Path.{refl}
-use Prim.Native.Nat.{_-_}
 use borrow.Author.Needs.{needs}
 use Rattle.pool.proofs.parts.load_cost.Statement.{statement}
 use Rattle.pool.proofs.parts.load_cost.Tie as tie

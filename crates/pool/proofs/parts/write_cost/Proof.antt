@@ -1,5 +1,4 @@
 -- `pool::parts::write_cost` meets its contract: three stores make the whole part. Assumes nothing.
-use Prim.Native.Nat.{_-_}
 use native.Mathlib.Omega.{arith}
 use borrow.Author.Needs.{needs}
 use Rattle.pool.proofs.Pushing.{three-stored}
