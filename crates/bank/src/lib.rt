@@ -107,7 +107,7 @@ fn points_reach(points: [Point; 16], nv: usize, w: u32) -> bool
 }
 
 // The refusal of a bank build, 0 where there is none.
-fn bank_refusal(nv: u32, w: u32, points: [Point; 16], target: [u64; 16], sizes: Sizes) -> u32
+pub fn bank_refusal(nv: u32, w: u32, points: [Point; 16], target: [u64; 16], sizes: Sizes) -> u32
     ensures { λ r. ⌜ r ≡ bankRefusal nv w points target sizes ⌝ }
 {
     if arith::bad_count(nv) {

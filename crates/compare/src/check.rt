@@ -1,4 +1,5 @@
 // One line of a data file against our own answer. The first number is the kind; the head of each data file tells what follows.
+use crate::banks;
 use crate::formulas;
 use simd::Gate;
 use simd::Match;
@@ -23,6 +24,8 @@ pub fn line_same(line: &[u64]) -> bool {
         8 => inverse_same(line),
         9 => formulas::formula_same(line),
         10 => formulas::refusal_same(line),
+        11 => banks::bank_same(line),
+        12 => banks::bank_refusal_same(line),
         _ => false,
     }
 }

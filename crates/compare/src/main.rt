@@ -1,5 +1,6 @@
 // The comparing program: reads each data file that its arguments name, asks our own calls for each line's answer, and writes
 // how many answers it compared and how many differ. A line that differs is named on standard error.
+mod banks;
 mod check;
 mod formulas;
 mod scan;
