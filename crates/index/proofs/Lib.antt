@@ -7,3 +7,4 @@ pub mod AreaLaws
 pub mod TrialLaws
 pub mod Passing
 pub mod WholeLaws
+pub mod SheetDraft

@@ -1,5 +1,4 @@
-P3 of 01 on this crate's definitions: proved by refl as a module of crates/index/proofs (declared in proofs/Lib.antt); nothing is missing, kept here for whoever writes the sheet.
--- 01, P3, on the rows of P2's bank, of which four words are enough: they repeat. Assumes nothing.
+-- P3 of 01 on the definition of the index, over the rows of P2's bank, of which four words are enough: they repeat. A draft of the joint sheet. Assumes nothing.
 use mathlib.Core.Path.{_≡_, refl}
 use mathlib.Core.Bool.{Bool, true, false}
 use mathlib.Core.List.{List, [], _∷_}
