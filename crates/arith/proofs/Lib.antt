@@ -5,3 +5,4 @@ pub mod Newton
 pub mod Fill
 pub mod Parts
 pub mod Refusals
+pub mod Lists

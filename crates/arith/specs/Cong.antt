@@ -7,7 +7,7 @@ pub record Cong (m a b : ℕ) : Type 0 where
   pub same : a % m ≡ b % m
 
 -- 01, Candidates: `mod_inverse_odd(m, k)` is the number below 2^k with product 1 with m modulo 2^k; n is 2^k.
--- An even m has none, unless n is 1: the answer is then 0. The three fields leave one answer (`inverse-unique` of proofs/Inverse)
+-- An even m has none, unless n is 1: the answer is then 0. The three fields leave one answer (`inverse-unique` of proofs/Newton)
 pub record Inverse (n m r : ℕ) : Type 0 where
   pub below : r < n
   pub inverse : m % 2 ≡ 1 → Cong n (m * r) 1

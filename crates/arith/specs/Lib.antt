@@ -3,3 +3,4 @@ pub mod Word
 pub mod Cong
 pub mod Refusal
 pub mod Parts
+pub mod Lists

@@ -11,7 +11,8 @@ use Rattle.expr.specs.declared.Cost.{Cost}
 use Rattle.expr.specs.Cost.{infoOf}
 use Rattle.probe.specs.declared.Point.{Point}
 use Rattle.atoms.specs.Bank.{Atom, noAtom}
-use Rattle.atoms.specs.Stock.{countUp, seedsOf, bankOf}
+use Rattle.arith.specs.Lists.{countUp}
+use Rattle.atoms.specs.Stock.{seedsOf, bankOf}
 
 -- one variable: its word, then the five places that are ignored
 abbrev pub pointsOf : List ℕ → List Point

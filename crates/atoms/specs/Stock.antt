@@ -4,17 +4,13 @@ use mathlib.Core.List.{List, [], _∷_, _++_, map, flatMap}
 use Prim.Native.Nat.{ℕ, zero, suc, _-_, _^_}
 use lib.Bits.{bitOr}
 use lib.Dec.{eqb}
+use Rattle.arith.specs.Lists.{countUp}
 use Rattle.simd.specs.declared.Gate.{Gate}
 use Rattle.simd.specs.declared.Gate.the-variants.{And, Or, Xor, Add, Mul}
 use Rattle.expr.specs.declared.Token.{Token}
 use Rattle.expr.specs.declared.Token.the-variants.{Constant, Variable, Binary, Not, Neg}
 use Rattle.probe.specs.declared.Point.{Point}
 use Rattle.atoms.specs.Bank.{Atom, built}
-
--- i, i + 1, .., n of them
-unfoldable pub countUp : ℕ → ℕ → List ℕ
-countUp i zero = []
-countUp i (suc n) = i ∷ countUp (suc i) n
 
 -- 01, Bank: constants 0, 1, 2, 2^w - 1
 unfoldable pub constants : ℕ → List (List Token)

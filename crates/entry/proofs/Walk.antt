@@ -15,7 +15,8 @@ use Rattle.arith.proofs.Refusals.{true-not-false}
 use Rattle.simd.specs.declared.Gate.the-variants.{Add, Mul}
 use Rattle.expr.specs.declared.Token.{Token}
 use Rattle.expr.specs.declared.Token.the-variants as T
-use Rattle.atoms.specs.Stock.{countUp, constants, ofVariable, gatesOf, differenceOf, stock}
+use Rattle.arith.specs.Lists.{countUp}
+use Rattle.atoms.specs.Stock.{constants, ofVariable, gatesOf, differenceOf, stock}
 use Rattle.atoms.proofs.Stocks.{stock-few}
 use Rattle.entry.specs.declared.Cursor.{Cursor}
 use Rattle.entry.specs.declared.Cursor.the-variants.{Constant, Variable, Pair, Difference, Done}

@@ -9,7 +9,8 @@ use Rattle.simd.specs.declared.Gate.{Gate}
 use Rattle.simd.specs.declared.Gate.the-variants.{And, Or, Xor, Add, Mul}
 use Rattle.expr.specs.declared.Token.{Token}
 use Rattle.expr.specs.declared.Token.the-variants as T
-use Rattle.atoms.specs.Stock.{countUp, constants, ofVariable, gatesOf, differenceOf}
+use Rattle.arith.specs.Lists.{countUp}
+use Rattle.atoms.specs.Stock.{constants, ofVariable, gatesOf, differenceOf}
 use Rattle.entry.specs.declared.Cursor.{Cursor}
 use Rattle.entry.specs.declared.Cursor.the-variants.{Constant, Variable, Pair, Difference, Done}
 

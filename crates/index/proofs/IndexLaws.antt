@@ -17,10 +17,10 @@ use Rattle.simd.specs.declared.Gate.{Gate}
 use Rattle.simd.specs.declared.Gate.the-variants.{And, Or, Xor, Add, Mul}
 use Rattle.simd.proofs.GateLaws.{gate-comm}
 use Rattle.simd.proofs.Rows.{same-row-eq, same-row-refl}
-use Rattle.index.specs.Lists.{countUp, In}
+use Rattle.arith.specs.Lists.{countUp, In}
 use Rattle.index.specs.Index.{Trial, Pair, Index, holds, firstC, trialsUpTo, trialsWith, trialsOfGate, trialsOf, trialRow, pairOf, rowsIn, listed, ended, tryPair, tryAll, noPairs, indexOf, addNew, allPairs}
 use Rattle.index.specs.Facts.{Holds, noPair, SoundPair, SoundPairs, NoneLost, IndexIsSound, AtMostLimit, UncutLosesNone, CutExactly, FirstOfAll, FirstPairs, AllAreSound, AllLoseNone}
-use Rattle.index.proofs.Lists.{false-true, bool-cases, in-left, in-right, in-map, map-in, in-flat, flat-in, in-count, count-in, in-at, in-place}
+use Rattle.arith.proofs.Lists.{false-true, bool-cases, in-left, in-right, in-map, map-in, in-flat, flat-in, in-count, count-in, in-at, in-place}
 
 -- ---- rows that are held
 pub holds-in : (rs : List (List ℕ)) (r : List ℕ) → holds rs r ≡ true → In r rs

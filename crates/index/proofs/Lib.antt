@@ -1,5 +1,4 @@
 -- The laws of this crate, which the crates above cite too.
-pub mod Lists
 pub mod IndexLaws
 pub mod RowLaws
 pub mod StepLaws

@@ -9,7 +9,7 @@ use lib.Dec.{ltb}
 use Rattle.arith.specs.Refusal.{refuse, badWidth}
 use Rattle.arith.proofs.Refusals.{within}
 use Rattle.index.specs.Build.{atomsMax, limitMax, tooShort, refusalOf}
-use Rattle.index.proofs.Lists.{false-true}
+use Rattle.arith.proofs.Lists.{false-true}
 
 pub or-last : {a b c d : Bool} (e : Bool) → a ≡ false → b ≡ false → c ≡ false → d ≡ false → e ≡ (a || (b || (c || (d || e))))
 or-last e p q r s = rw (p, q, r, s)

@@ -15,10 +15,10 @@ use Rattle.simd.specs.Gates.{gateRow}
 use Rattle.simd.specs.declared.Gate.{Gate}
 use Rattle.simd.proofs.Rows.{length-gateRow}
 use Rattle.valmap.specs.Map.{Hit, Miss}
-use Rattle.index.specs.Lists.{In}
+use Rattle.arith.specs.Lists.{In}
 use Rattle.index.specs.Index.{Pair, rowsOf, rowsIn, holds, trialRow}
 use Rattle.index.specs.Build.{pairRow}
-use Rattle.index.proofs.Lists.{in-left, in-right, in-split}
+use Rattle.arith.proofs.Lists.{in-left, in-right, in-split}
 use Rattle.index.proofs.IndexLaws.{in-holds, not-in-holds}
 
 pub length-rowsOf : (n : ℕ) (rows : List ℕ) → length (rowsOf n rows) ≡ n

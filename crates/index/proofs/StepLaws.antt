@@ -15,7 +15,7 @@ use Rattle.index.specs.declared.inner.Tally.{Tally}
 use Rattle.index.specs.Index.{Trial, Pair, Index, holds, rowsOf, rowsIn, trialRow, pairOf, listed, ended, tryPair, tryAll}
 use Rattle.index.specs.Build.{pairPart}
 use Rattle.index.specs.Steps.{bankArea, bankBits, Ready, Is, Ran, Listable, ListedPair, InsertedPair}
-use Rattle.index.proofs.Lists.{false-true}
+use Rattle.arith.proofs.Lists.{false-true}
 use Rattle.index.proofs.IndexLaws.{rows-snoc, try-cases, stays-cut, try-append}
 use Rattle.index.proofs.RowLaws.{rows-put}
 

@@ -8,10 +8,10 @@ use lib.ListN.{getD, take, drop, take-append-drop}
 use lib.Seq.{take-suc}
 use Rattle.simd.specs.declared.Gate.{Gate}
 use Rattle.simd.specs.declared.Gate.the-variants.{And, Or, Xor, Add, Mul}
-use Rattle.index.specs.Lists.{countUp}
+use Rattle.arith.specs.Lists.{countUp}
 use Rattle.index.specs.Index.{Trial, allGates, firstC, trialsUpTo, trialsWith, trialsOfGate, trialsOf}
 use Rattle.index.specs.Steps.{trial}
-use Rattle.index.proofs.Lists.{count-add}
+use Rattle.arith.proofs.Lists.{count-add}
 
 map-append : {A B : Type 0} (f : A → B) (xs ys : List A) → map f (xs ++ ys) ≡ map f xs ++ map f ys
 map-append f [] ys = refl

@@ -9,7 +9,7 @@ use lib.ListN.{length, getD, take}
 use Rattle.simd.specs.Gates.{gateRow}
 use Rattle.simd.specs.declared.Gate.{Gate}
 use Rattle.simd.specs.declared.Gate.the-variants.{And}
-use Rattle.index.specs.Lists.{In}
+use Rattle.arith.specs.Lists.{In}
 use Rattle.index.specs.Index.{Pair, Index, indexOf, rowsIn, allPairs}
 
 -- some slot has the row

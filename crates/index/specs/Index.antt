@@ -9,7 +9,7 @@ use Rattle.arith.specs.Parts.{partAt}
 use Rattle.simd.specs.Gates.{gateRow, sameRow}
 use Rattle.simd.specs.declared.Gate.{Gate}
 use Rattle.simd.specs.declared.Gate.the-variants.{And, Or, Xor, Add, Mul}
-use Rattle.index.specs.Lists.{countUp}
+use Rattle.arith.specs.Lists.{countUp}
 
 -- 01, Calls over a lent bank work on its contents as they are: the first n rows of a lent array, words at or above 2^w too
 unfoldable pub rowsOf : ℕ → List ℕ → List (List ℕ)

@@ -1,5 +1,4 @@
 -- What the contracts of this crate, and the definitions above it, cite.
-pub mod Lists
 pub mod Index
 pub mod Facts
 pub mod Build

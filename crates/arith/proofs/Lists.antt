@@ -7,7 +7,7 @@ use Prim.Native.Nat.{ℕ, zero, suc, _+_, _≤_, _<_}
 use native.Mathlib.Nat.{eq-or-lt-of-le}
 use native.Mathlib.Omega.{arith}
 use lib.ListN.{getD, length}
-use Rattle.index.specs.Lists.{countUp, In}
+use Rattle.arith.specs.Lists.{countUp, In}
 
 pub false-true : false ≡ true → ⊥
 false-true p = let z : _≡_ {A = ℕ} 0 1 = cc in omega arith

@@ -1,0 +1,27 @@
+-- Lists: counting up, membership, what passes a test. Assumes nothing.
+use mathlib.Core.Path.{_≡_}
+use mathlib.Core.Bool.{Bool, cond}
+use mathlib.Core.Logic.{_⊎_}
+use mathlib.Core.List.{List, [], _∷_}
+use mathlib.Core.Option.{Option, none, some}
+use Prim.Native.Nat.{ℕ, zero, suc}
+
+-- i, i + 1, .., n of them
+unfoldable pub countUp : ℕ → ℕ → List ℕ
+countUp i zero = []
+countUp i (suc n) = i ∷ countUp (suc i) n
+
+-- x stands in the list
+abbrev pub In : {A : Type 0} → A → List A → Type 0
+In x [] = ⊥
+In x (y ∷ ys) = (x ≡ y) ⊎ In x ys
+
+-- the elements that pass the test
+unfoldable pub keep : {A : Type 0} → (A → Bool) → List A → List A
+keep test [] = []
+keep test (x ∷ l) = cond (test x) (x ∷ keep test l) (keep test l)
+
+-- the first element that passes the test, none if none does
+unfoldable pub firstThat : {A : Type 0} → (A → Bool) → List A → Option A
+firstThat test [] = none
+firstThat test (x ∷ l) = cond (test x) (some x) (firstThat test l)
