@@ -3,8 +3,8 @@ use mathlib.Core.Path.{_≡_}
 use mathlib.Core.Bool.{true, false}
 use Prim.Native.Nat.{ℕ, _%_, _^_, _≤_, _<_, _+_}
 use lib.Dec.{eqb}
-use Rattle.solve.specs.declared.Solution.{Solution}
-use Rattle.solve.specs.declared.Solution.the-variants.{Class, Nothing}
+use Rattle.solve.specs.declared.inner.Solution.{Solution}
+use Rattle.solve.specs.declared.inner.Solution.the-variants.{Class, Nothing}
 use Rattle.solve.specs.Equation.{used, solves}
 
 pub record Asked (w p t : ℕ) : Type 0 where
