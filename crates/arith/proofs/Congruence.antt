@@ -1,8 +1,9 @@
 -- Laws of congruence modulo m. Assumes nothing.
 use mathlib.Core.Path.{_≡_, refl, sym, ap, ap₂, _∙_}
 use Prim.Native.Nat.{ℕ, zero, _+_, _-_, _*_, _/_, _%_, _^_, _≤_, _<_}
-use native.Mathlib.Nat.{add-assoc, add-comm, mul-comm, mul-assoc, mul-add, add-mul, mul-one, one-mul, add-mod, mod-mod, mod-lt, mod-eq-of-lt, add-mul-mod-self-right, div-add-mod'}
+use native.Mathlib.Nat.{add-assoc, add-comm, add-zero, mul-comm, mul-add, add-mul, mul-one, one-mul, add-mod, mod-mod, mod-lt, mod-eq-of-lt, add-mul-mod-self-right, mul-div-left, mul-mod-left, eq-of-mul-eq-mul-left, div-add-mod'}
 use native.Mathlib.Omega.{arith}
+use lib.Arith.{mod-mul}
 use Rattle.arith.specs.Word.{subOf}
 use Rattle.arith.specs.Cong.{Cong}
 use Rattle.arith.proofs.Remainders.{mod-mul-mod, mul-mod-mod, mod-mod-le}
@@ -55,6 +56,22 @@ cong-cancel {m} {a} {b} c h p =
 -- congruent modulo a power of two: also modulo a smaller one
 pub cong-less : {a b : ℕ} {k n : ℕ} → k ≤ n → Cong (2 ^ n) a b → Cong (2 ^ k) a b
 cong-less {a} {b} {k} {n} h p = record { same = sym (mod-mod-le a h) ∙ ap (λ (x : ℕ). x % 2 ^ k) (p .same) ∙ mod-mod-le b h }
+
+-- a factor of both sides and of the modulus
+mul-mod-mul : (c a m : ℕ) → zero < c → zero < m → (c * a) % (c * m) ≡ c * (a % m)
+mul-mod-mul c a m hc hm =
+    ap₂ (λ (x y : ℕ). x % y) (mul-comm c a) (mul-comm c m)
+    ∙ mod-mul (a * c) hm hc
+    ∙ ap₂ (λ (x y : ℕ). (x % m) * c + y) (mul-div-left a hc) (mul-mod-left a c)
+    ∙ add-zero (a % m * c) ∙ mul-comm (a % m) c
+
+pub cong-scale : {m a b : ℕ} (c : ℕ) → zero < c → zero < m → Cong m a b → Cong (c * m) (c * a) (c * b)
+cong-scale {m} {a} {b} c hc hm p =
+    record { same = mul-mod-mul c a m hc hm ∙ ap (λ (x : ℕ). c * x) (p .same) ∙ sym (mul-mod-mul c b m hc hm) }
+
+pub cong-unscale : {m a b : ℕ} (c : ℕ) → zero < c → zero < m → Cong (c * m) (c * a) (c * b) → Cong m a b
+cong-unscale {m} {a} {b} c hc hm p =
+    record { same = eq-of-mul-eq-mul-left c hc (a % m) (b % m) (sym (mul-mod-mul c a m hc hm) ∙ p .same ∙ mul-mod-mul c b m hc hm) }
 
 -- congruent and both below m: equal
 pub cong-below : {m a b : ℕ} → a < m → b < m → Cong m a b → a ≡ b

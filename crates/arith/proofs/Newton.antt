@@ -5,9 +5,10 @@ use Prim.Native.Nat.{ℕ, zero, suc, _+_, _*_, _/_, _%_, _^_, _≤_, _<_}
 use native.Mathlib.Nat.{add-assoc, add-comm, add-left-comm, mul-comm, mul-assoc, mul-left-comm, mul-add, add-mul, mul-one, one-mul, mod-lt, mod-eq-of-lt, div-add-mod'}
 use native.Mathlib.Omega.{arith}
 use lib.Pow.{pow-pos, pow-lt, pow-add}
+use Rattle.arith.specs.Word.{subOf}
 use Rattle.arith.specs.Cong.{Cong, Inverse}
 use Rattle.arith.proofs.Remainders.{mod-mod-le}
-use Rattle.arith.proofs.Congruence.{cong-refl, cong-sym, cong-trans, cong-eq, cong-mod, cong-add, cong-mul, cong-multiple, cong-cancel, cong-below}
+use Rattle.arith.proofs.Congruence.{cong-refl, cong-sym, cong-trans, cong-eq, cong-mod, cong-add, cong-mul, cong-multiple, cong-cancel, cong-less, cong-below, sub-add}
 
 -- where q is 1 modulo P and y + q is 2 modulo P * P, q * y is 1 modulo P * P
 newton : (P a q y : ℕ) → zero < P * P → q ≡ a * P + 1 → Cong (P * P) (y + q) 2 → Cong (P * P) (q * y) 1
@@ -65,6 +66,31 @@ pub times-inverse : {n : ℕ} (m v f t : ℕ) → Cong n (m * v) 1 → Cong n (m
 times-inverse {n} m v f t i p =
     cong-trans (cong-sym (cong-trans (cong-mul i (cong-refl n f)) (cong-eq n (one-mul f))))
     (cong-trans (cong-eq n (ap (λ (x : ℕ). x * f) (mul-comm m v) ∙ mul-assoc v m f)) (cong-mul (cong-refl n v) p))
+
+pub of-inverse : {n : ℕ} (m v f t : ℕ) → Cong n (m * v) 1 → Cong n f (v * t) → Cong n (m * f) t
+of-inverse {n} m v f t i p =
+    cong-trans (cong-mul (cong-refl n m) p)
+    (cong-trans (cong-eq n (sym (mul-assoc m v t))) (cong-trans (cong-mul i (cong-refl n t)) (cong-eq n (one-mul t))))
+
+-- an odd number has an inverse modulo every power of two
+pub record HasInverse (k m : ℕ) : Type 0 where
+  pub v : ℕ
+  pub is : Cong (2 ^ k) (m * v) 1
+
+pub odd-has-inverse : (k m : ℕ) → m % 2 ≡ 1 → HasInverse k m
+odd-has-inverse zero m o = record { v = 1; is = record { same = omega arith } }
+odd-has-inverse (suc zero) m o = record { v = 1; is = record { same = ap (λ (x : ℕ). x % 2) (mul-one m) ∙ o } }
+odd-has-inverse (suc (suc k)) m o = doubled (odd-has-inverse (suc k) m o)
+  where
+    -- one step of Newton's iteration gives enough bits
+    doubled : HasInverse (suc k) m → HasInverse (suc (suc k)) m
+    doubled h =
+        let n = 2 ^ (suc k + suc k) in
+        let y = subOf n 2 (m * h .v) in
+        record {
+          v = h .v * y;
+          is = cong-less (omega arith) (newton-doubles (suc k) m (h .v) y (omega arith) (h .is) (sub-add n 2 (m * h .v) (pow-pos (suc k + suc k))));
+        }
 
 -- the promise of `mod_inverse_odd` leaves one answer, for every m
 pub inverse-unique : (n m r s : ℕ) → Inverse n m r → Inverse n m s → r ≡ s

@@ -1,0 +1,17 @@
+-- The equation p × f = t modulo 2^w, and the rule "used". p and t are reduced. Assumes nothing.
+use mathlib.Core.Bool.{Bool, not, _&&_, cond}
+use Prim.Native.Nat.{ℕ, _*_, _%_, _^_}
+use lib.Count.{trailingZeros}
+use lib.Dec.{eqb, ltb}
+
+-- 01, Candidates: z the trailing zeros of p, a word of 64 bits
+abbrev pub zerosOf : ℕ → ℕ
+zerosOf p = trailingZeros 64 p
+
+-- 01, Candidates: "not used" exactly if p = t = 0, or p ≠ 0, z > 8 and 2^z divides t. Otherwise "used"
+unfoldable pub used : ℕ → ℕ → Bool
+used p t = not (cond (eqb p 0) (eqb t 0) (ltb 8 (zerosOf p) && eqb (t % 2 ^ zerosOf p) 0))
+
+-- 01, Candidates: p × f = t modulo 2^w
+unfoldable pub solves : ℕ → ℕ → ℕ → ℕ → Bool
+solves w p t f = eqb (p * f % 2 ^ w) (t % 2 ^ w)
