@@ -1,3 +1,4 @@
 -- What the contracts of this crate, and the definitions above it, cite.
 pub mod Places
 pub mod Sweeps
+pub mod Steps

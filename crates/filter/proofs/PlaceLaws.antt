@@ -1,0 +1,1 @@
+-- Laws of skipped places, for the callers. Assumes nothing.
