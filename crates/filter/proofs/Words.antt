@@ -6,7 +6,8 @@ use Prim.Native.Nat.{ℕ, _+_, _-_, _*_, _≤_, _<_}
 use native.Mathlib.Nat.{eq-or-lt-of-le}
 use native.Mathlib.Decide.{decLt}
 use native.Mathlib.Omega.{arith}
-use lib.ListN.{getD}
+use lib.ListN.{length, set, getD, length-set}
+use Rattle.arith.proofs.Fill.{filled-more}
 use Rattle.order.proofs.OrderLaws.{order-lent}
 use Rattle.filter.specs.Places.{wordAt, sampleStep, Ordered, Sampled, Reached, Lower}
 use Rattle.filter.specs.Steps.{Ascends, AfterSamples, Window}
@@ -32,6 +33,14 @@ module _ (n : ℕ) (rows order : List ℕ) (o : Ordered n rows order) where
           let b = sampled .is k h in
           let c = words-ascend .up (sampleStep * j) (sampleStep * k) (omega arith) (sampled .within k h) in
           omega arith;
+    }
+
+    -- one sample more
+    pub sampled-more : (v : ℕ) → m < length samples → sampleStep * m < n → v ≡ wordAt rows order (sampleStep * m) → Sampled n rows order (set samples m v) (m + 1)
+    sampled-more v h b e = record {
+      fit = omega (arith, length-set samples m v);
+      within = λ j l. omega arith;
+      is = filled-more (λ (j : ℕ). wordAt rows order (sampleStep * j)) samples m v h (sampled .is) e;
     }
 
     -- u samples are below the key, which the word at lo is too; the search goes on from `from`
