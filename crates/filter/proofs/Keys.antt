@@ -182,9 +182,9 @@ module _ (c : Residue) (small : Small c) where
               roomy : (k s x f t top : ℕ) → k + s + x ≡ f + t → s ≤ x → f < s → t ≤ top → k + s < top
               roomy k s x f t top a b d e = omega arith
 
-          pub going-next : (gap key′ : ℕ) → gap ≡ modulus (c .bits) - 1 → key′ ≡ ((key + gap) % 2 ^ 64 + 1) % 2 ^ 64 → Going a at key′ (left - 1)
-          going-next gap key′ ge ke =
-              let next : 0 < left - 1 → key′ ≡ key + S = λ p. ke ∙ wrapped key gap S (2 ^ 64) (ge ∙ ap (λ (x : ℕ). x - 1) modulus-bits) (pow-pos (c .bits)) (room p) in
+          pub going-next : (key′ : ℕ) → key′ ≡ ((key + (modulus (c .bits) - 1)) % 2 ^ 64 + 1) % 2 ^ 64 → Going a at key′ (left - 1)
+          going-next key′ ke =
+              let next : 0 < left - 1 → key′ ≡ key + S = λ p. ke ∙ wrapped key (modulus (c .bits) - 1) S (2 ^ 64) (ap (λ (x : ℕ). x - 1) modulus-bits) (pow-pos (c .bits)) (room p) in
               record {
                 sweeping = record {
                   within = g .sweeping .within;

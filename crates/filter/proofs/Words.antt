@@ -35,6 +35,9 @@ module _ (n : ℕ) (rows order : List ℕ) (o : Ordered n rows order) where
           omega arith;
     }
 
+    pub samples-few : m ≤ 262144
+    samples-few = elim (decLt 0 m) [ yes h ↦ omega (arith, sampled .within (m - 1) (omega arith), o .most) | no h ↦ omega arith ]
+
     -- one sample more
     pub sampled-more : (v : ℕ) → m < length samples → sampleStep * m < n → v ≡ wordAt rows order (sampleStep * m) → Sampled n rows order (set samples m v) (m + 1)
     sampled-more v h b e = record {

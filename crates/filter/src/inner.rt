@@ -1,7 +1,8 @@
 // What the candidates and the search call with an order list that they have tested.
 ghost use mathlib.Core.Path.{_≡_};
-ghost use Prim.Native.Nat.{ℕ, _+_, _≤_, _<_};
+ghost use Prim.Native.Nat.{ℕ, _+_, _-_, _%_, _^_, _≤_, _<_};
 ghost use lib.ListN.{length, getD};
+ghost use Rattle.arith.specs.Word.{modulus};
 ghost use Rattle.filter.specs.Places.{wordAt, Ordered, Sampled, Reached, Lower, FirstOf};
 ghost use Rattle.filter.specs.Sweeps.{inClass, Small, Sweeping, Settled};
 ghost use Rattle.filter.specs.Steps.{Ascends, AfterSamples, Window, KeysPassed, KeySettled};
@@ -115,12 +116,18 @@ pub fn lower(rows: &[u64], order: &[u32], n: usize, samples: &[u64], m: usize, l
     lower_between(rows, order, n, from, n, key)
 }
 
+// The key 2^bits further on. No step of 2^64 is needed for it at 64 bits.
+fn next_key(key: u64, bits: u32) -> u64
+    ensures { λ r. ⌜ r ≡ ((key + (modulus bits - 1)) % 2 ^ 64 + 1) % 2 ^ 64 ⌝ }
+{
+    std::num::wrapping_add_u64(std::num::wrapping_add_u64(key, arith::bitmask(bits)), 1)
+}
+
 // From the sweep's place on, the first place whose first word is one of the keys left.
 fn settle_keys(rows: &[u64], order: &[u32], n: usize, samples: &[u64], m: usize, class: Residue, s: Sweep) -> Sweep
     requires { ⌜ Ordered n (now rows) (now order) × Sampled n (now rows) (now order) (now samples) m × Small class × Sweeping class n (now rows) (now order) s ⌝ }
     ensures { λ r. ⌜ KeySettled class n (now (rows .entry)) (now (order .entry)) (s .at) r ⌝ }
 {
-    let gap = arith::bitmask(class.bits);
     let mut at = s.at;
     let mut key = s.key;
     let mut left = s.left;
@@ -132,7 +139,7 @@ fn settle_keys(rows: &[u64], order: &[u32], n: usize, samples: &[u64], m: usize,
         if word_at(rows, order, n, at) == key {
             return Sweep { at: at, key: key, left: left };
         }
-        key = std::num::wrapping_add_u64(std::num::wrapping_add_u64(key, gap), 1);
+        key = next_key(key, class.bits);
         left -= 1;
     }
     Sweep { at: at, key: key, left: 0 }
