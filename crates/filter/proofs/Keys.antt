@@ -36,6 +36,12 @@ wrapped key gap S top g pos room =
     ap (λ (x : ℕ). (x + 1) % top) (mod-eq-of-lt {m = top} (let q : key + gap < top = omega arith in q))
     ∙ ap (λ (x : ℕ). x % top) sum ∙ mod-eq-of-lt room
 
+-- a sweep that began at place a has come to place `at`
+pub record Going (c : Residue) (n : ℕ) (rows order : List ℕ) (a at key left : ℕ) : Type 0 where
+  pub sweeping : Sweeping c n rows order (record { at = at; key = key; left = left })
+  pub from : a ≤ at
+  pub skips : Skips (inClass c rows) order a at
+
 module _ (c : Residue) (small : Small c) where
   abbrev S : ℕ
   S = 2 ^ c .bits
@@ -79,20 +85,15 @@ module _ (c : Residue) (small : Small c) where
       beyond = λ z k l b y. w .beyond z k (omega arith) b y;
     }
 
-    -- ---- the sweep between place a and the place that it has come to
-    pub record Going (a at key left : ℕ) : Type 0 where
-      pub sweeping : Sweeping c n rows order (record { at = at; key = key; left = left })
-      pub from : a ≤ at
-      pub skips : Skips (inClass c rows) order a at
-
-    pub going-start : (s : Sweep) → Sweeping c n rows order s → Going (s .at) (s .at) (s .key) (s .left)
+    -- ---- from turn to turn
+    pub going-start : (s : Sweep) → Sweeping c n rows order s → Going c n rows order (s .at) (s .at) (s .key) (s .left)
     going-start s w = record {
       sweeping = record { within = w .within; key-is = w .key-is; above = w .above; beyond = w .beyond };
       from = omega arith;
       skips = skips-none (inClass c rows) order (s .at);
     }
 
-    module _ (a at key left : ℕ) (g : Going a at key left) where
+    module _ (a at key left : ℕ) (g : Going c n rows order a at key left) where
       pub going-done : left ≤ 0 → KeySettled c n rows order a (record { at = at; key = key; left = 0 })
       going-done z =
           let w = g .sweeping in
@@ -117,7 +118,7 @@ module _ (c : Residue) (small : Small c) where
             ∙ mod-eq-of-lt (small .below)
 
         -- up to the key nothing is of the class
-        pub going-lower : (r : ℕ) → Lower n rows order at key r → Going a r key left
+        pub going-lower : (r : ℕ) → Lower n rows order at key r → Going c n rows order a r key left
         going-lower r low =
             let w = g .sweeping in
             let f = low .from in
@@ -182,7 +183,7 @@ module _ (c : Residue) (small : Small c) where
               roomy : (k s x f t top : ℕ) → k + s + x ≡ f + t → s ≤ x → f < s → t ≤ top → k + s < top
               roomy k s x f t top a b d e = omega arith
 
-          pub going-next : (key′ : ℕ) → key′ ≡ ((key + (modulus (c .bits) - 1)) % 2 ^ 64 + 1) % 2 ^ 64 → Going a at key′ (left - 1)
+          pub going-next : (key′ : ℕ) → key′ ≡ ((key + (modulus (c .bits) - 1)) % 2 ^ 64 + 1) % 2 ^ 64 → Going c n rows order a at key′ (left - 1)
           going-next key′ ke =
               let next : 0 < left - 1 → key′ ≡ key + S = λ p. ke ∙ wrapped key (modulus (c .bits) - 1) S (2 ^ 64) (ap (λ (x : ℕ). x - 1) modulus-bits) (pow-pos (c .bits)) (room p) in
               record {
