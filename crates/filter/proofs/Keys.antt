@@ -1,11 +1,10 @@
 -- The sweep over the keys: from its place on, no word of the class is below its key. Assumes nothing.
-use mathlib.Core.Path.{_≡_, refl, sym, ap, _∙_, subst}
-use mathlib.Core.Bool.{Bool, true, false}
+use mathlib.Core.Path.{_≡_, sym, ap, _∙_, subst}
+use mathlib.Core.Bool.{true, false}
 use mathlib.Core.List.{List}
 use Prim.Native.Nat.{ℕ, _+_, _-_, _*_, _/_, _%_, _^_, _≤_, _<_}
-use native.Mathlib.Nat.{mod-eq-of-lt, mod-le, div-add-mod', sub-add-cancel, add-mul, one-mul, mul-le-mul-right, lt-of-mul-lt-mul-right, add-mul-mod-self-right}
+use native.Mathlib.Nat.{lt-irrefl, lt-of-lt-of-le, zero-mul, mod-eq-of-lt, mod-le, div-add-mod', sub-add-cancel, add-mul, one-mul, mul-le-mul-right, lt-of-mul-lt-mul-right, add-mul-mod-self-right}
 use native.Mathlib.Omega.{arith}
-use lib.Dec.{eqb}
 use lib.Pow.{pow-pos, pow-mono, pow-add}
 use lib.ListN.{getD}
 use borrow.Author.Tests.{eq-eqb, ne-eqb, eqb-true}
@@ -199,7 +198,7 @@ module _ (c : Residue) (small : Small c) where
             where
               beyond-is : (k s d f t v : ℕ) → k + s + d * S ≡ f + t → d ≡ 0 → k + s ≤ v → t ≤ v
               beyond-is k s d f t v e z b =
-                  let q : d * S ≡ 0 = ap (λ (x : ℕ). x * S) z ∙ native.Mathlib.Nat.zero-mul S in
+                  let q : d * S ≡ 0 = ap (λ (x : ℕ). x * S) z ∙ zero-mul S in
                   omega arith
 
     -- ---- the tail
@@ -213,7 +212,7 @@ module _ (c : Residue) (small : Small c) where
       to = omega arith;
       skips = λ k l h.
           is-false (inClass c rows (getD order k 0)) (λ y.
-          native.Mathlib.Nat.lt-irrefl (wordAt rows order k) (native.Mathlib.Nat.lt-of-lt-of-le (words k) (p .beyond k l h y)));
+          lt-irrefl (wordAt rows order k) (lt-of-lt-of-le (words k) (p .beyond k l h y)));
       stops = λ h. absurd (omega arith);
     }
 

@@ -25,7 +25,7 @@ pub struct Sweep {
 pub const SAMPLE_STEP: usize = 16;
 
 // The first word of the slot at place k.
-pub fn word_at(rows: &[u64], order: &[u32], n: usize, k: usize) -> u64
+fn word_at(rows: &[u64], order: &[u32], n: usize, k: usize) -> u64
     requires { ⌜ Ordered n (now rows) (now order) × (k < n) ⌝ }
     ensures { λ r. ⌜ r ≡ wordAt (now (rows .entry)) (now (order .entry)) k ⌝ }
 {
@@ -97,7 +97,15 @@ fn lower_between(rows: &[u64], order: &[u32], n: usize, from: usize, to: usize, 
 }
 
 // The first place from `lo` on whose first word is `key` or more. The m samples narrow the search before it reads rows.
-pub fn lower(rows: &[u64], order: &[u32], n: usize, samples: &[u64], m: usize, lo: usize, key: u64) -> usize
+pub fn lower(
+    rows: &[u64],
+    order: &[u32],
+    n: usize,
+    samples: &[u64],
+    m: usize,
+    lo: usize,
+    key: u64,
+) -> usize
     requires { ⌜ Ordered n (now rows) (now order) × Sampled n (now rows) (now order) (now samples) m × (lo ≤ n) ⌝ }
     ensures { λ r. ⌜ Lower n (now (rows .entry)) (now (order .entry)) lo key r ⌝ }
 {
@@ -124,7 +132,15 @@ fn next_key(key: u64, bits: u32) -> u64
 }
 
 // From the sweep's place on, the first place whose first word is one of the keys left.
-fn settle_keys(rows: &[u64], order: &[u32], n: usize, samples: &[u64], m: usize, class: Residue, s: Sweep) -> Sweep
+fn settle_keys(
+    rows: &[u64],
+    order: &[u32],
+    n: usize,
+    samples: &[u64],
+    m: usize,
+    class: Residue,
+    s: Sweep,
+) -> Sweep
     requires { ⌜ Ordered n (now rows) (now order) × Sampled n (now rows) (now order) (now samples) m × Small class × Sweeping class n (now rows) (now order) s ⌝ }
     ensures { λ r. ⌜ KeySettled class n (now (rows .entry)) (now (order .entry)) (s .at) r ⌝ }
 {
@@ -134,15 +150,27 @@ fn settle_keys(rows: &[u64], order: &[u32], n: usize, samples: &[u64], m: usize,
     while left > 0 {
         at = lower(rows, order, n, samples, m, at, key);
         if at == n {
-            return Sweep { at: n, key: key, left: 0 };
+            return Sweep {
+                at: n,
+                key: key,
+                left: 0,
+            };
         }
         if word_at(rows, order, n, at) == key {
-            return Sweep { at: at, key: key, left: left };
+            return Sweep {
+                at: at,
+                key: key,
+                left: left,
+            };
         }
         key = next_key(key, class.bits);
         left -= 1;
     }
-    Sweep { at: at, key: key, left: 0 }
+    Sweep {
+        at: at,
+        key: key,
+        left: 0,
+    }
 }
 
 // The first place from `at` on whose first word is of the class, one by one.
@@ -161,7 +189,15 @@ fn scan_class(rows: &[u64], order: &[u32], n: usize, class: Residue, at: usize) 
 }
 
 // From `at` on, the first place whose first word is of the class: all such words are 2^w or more.
-fn settle_tail(rows: &[u64], order: &[u32], n: usize, samples: &[u64], m: usize, class: Residue, at: usize) -> usize
+fn settle_tail(
+    rows: &[u64],
+    order: &[u32],
+    n: usize,
+    samples: &[u64],
+    m: usize,
+    class: Residue,
+    at: usize,
+) -> usize
     requires { ⌜ Ordered n (now rows) (now order) × Sampled n (now rows) (now order) (now samples) m × Small class × KeysPassed class n (now rows) (now order) at ⌝ }
     ensures { λ r. ⌜ FirstOf (inClass class (now (rows .entry))) n (now (order .entry)) at r ⌝ }
 {
@@ -173,7 +209,15 @@ fn settle_tail(rows: &[u64], order: &[u32], n: usize, samples: &[u64], m: usize,
 }
 
 // From the sweep's place on, the first place of the class.
-fn settle(rows: &[u64], order: &[u32], n: usize, samples: &[u64], m: usize, class: Residue, s: Sweep) -> Sweep
+fn settle(
+    rows: &[u64],
+    order: &[u32],
+    n: usize,
+    samples: &[u64],
+    m: usize,
+    class: Residue,
+    s: Sweep,
+) -> Sweep
     requires { ⌜ Ordered n (now rows) (now order) × Sampled n (now rows) (now order) (now samples) m × Small class × Sweeping class n (now rows) (now order) s ⌝ }
     ensures { λ r. ⌜ Settled class n (now (rows .entry)) (now (order .entry)) (s .at) r ⌝ }
 {
@@ -182,22 +226,65 @@ fn settle(rows: &[u64], order: &[u32], n: usize, samples: &[u64], m: usize, clas
         return t;
     }
     let at = settle_tail(rows, order, n, samples, m, class, t.at);
-    Sweep { at: at, key: t.key, left: 0 }
+    Sweep {
+        at: at,
+        key: t.key,
+        left: 0,
+    }
 }
 
 // The first place of the class.
-pub fn first_place(rows: &[u64], order: &[u32], n: usize, samples: &[u64], m: usize, class: Residue) -> Sweep
+pub fn first_place(
+    rows: &[u64],
+    order: &[u32],
+    n: usize,
+    samples: &[u64],
+    m: usize,
+    class: Residue,
+) -> Sweep
     requires { ⌜ Ordered n (now rows) (now order) × Sampled n (now rows) (now order) (now samples) m × Small class ⌝ }
     ensures { λ r. ⌜ Settled class n (now (rows .entry)) (now (order .entry)) 0 r ⌝ }
 {
     let left: u64 = 1 << (class.w - class.bits);
-    settle(rows, order, n, samples, m, class, Sweep { at: 0, key: class.first, left: left })
+    settle(
+        rows,
+        order,
+        n,
+        samples,
+        m,
+        class,
+        Sweep {
+            at: 0,
+            key: class.first,
+            left: left,
+        },
+    )
 }
 
 // The next place of the class after the one that the sweep has come to.
-pub fn next_place(rows: &[u64], order: &[u32], n: usize, samples: &[u64], m: usize, class: Residue, s: Sweep) -> Sweep
+pub fn next_place(
+    rows: &[u64],
+    order: &[u32],
+    n: usize,
+    samples: &[u64],
+    m: usize,
+    class: Residue,
+    s: Sweep,
+) -> Sweep
     requires { ⌜ Ordered n (now rows) (now order) × Sampled n (now rows) (now order) (now samples) m × Small class × Sweeping class n (now rows) (now order) s × (s .at < n) ⌝ }
     ensures { λ r. ⌜ Settled class n (now (rows .entry)) (now (order .entry)) (s .at + 1) r ⌝ }
 {
-    settle(rows, order, n, samples, m, class, Sweep { at: s.at + 1, key: s.key, left: s.left })
+    settle(
+        rows,
+        order,
+        n,
+        samples,
+        m,
+        class,
+        Sweep {
+            at: s.at + 1,
+            key: s.key,
+            left: s.left,
+        },
+    )
 }

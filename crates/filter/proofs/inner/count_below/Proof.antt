@@ -1,5 +1,4 @@
 -- `filter::inner::count_below` meets its contract: binary search between `from` and `to`. Assumes nothing.
-use mathlib.Core.List.{List}
 use Prim.Native.Nat.{ℕ, _+_, _-_, _/_}
 use lib.ListN.{getD}
 use borrow.Author.Needs.{needs}

@@ -1,28 +1,26 @@
+-- `filter::inner::first_place` meets its contract: the first of 2^(w - bits) keys is `first`. Assumes nothing.
 use native.Mathlib.Omega.{arith}
 use borrow.Author.Needs.{needs}
+use Rattle.arith.proofs.Remainders.{shl-one}
+use Rattle.filter.proofs.Keys.{sweeping-start}
 use Rattle.filter.proofs.inner.first_place.Statement.{statement}
 use Rattle.filter.proofs.inner.first_place.Tie as tie
-use Rattle.filter.proofs.inner.first_place.Reads as reads
-use Rattle.filter.proofs.inner.first_place.Lts as lts
-use Rattle.filter.proofs.inner.settle.Reads as settle-reads
 
--- src/inner.rt:193:27
 sub-left : tie.Need-sub-left
 sub-left c = search needs
 
--- src/inner.rt:193:27
 cast-left : tie.Need-cast-left
 cast-left c = search needs
 
--- src/inner.rt:193:21
 shl-left : tie.Need-shl-left
 shl-left c = search needs
 
--- src/inner.rt:194:5
 settle-requires : tie.Need-settle-requires
-settle-requires c κs = search needs
+settle-requires c κs =
+    let s = c .before .before .before .before in
+    let a = s .args in
+    (s .pre .0, s .pre .1, s .pre .2, sweeping-start (a .class) (s .pre .2) (a .n) (a .rows .now) (a .order .now) _ (shl-one (omega (arith, s .pre .2 .few))))
 
--- src/inner.rt:189:1
 returns : tie.Need-returns
 returns c = search needs
 

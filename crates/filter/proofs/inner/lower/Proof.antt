@@ -1,12 +1,11 @@
 -- `filter::inner::lower` meets its contract: the samples leave the places between two of them. Assumes nothing.
-use mathlib.Core.Path.{subst, sym}
-use Prim.Native.Nat.{ℕ, _*_, _-_, _<_, _≤_}
+use mathlib.Core.Path.{subst}
+use Prim.Native.Nat.{ℕ, _<_, _≤_}
 use borrow.Author.Needs.{needs}
 use native.Mathlib.Omega.{arith}
 use Rattle.filter.specs.Places.{wordAt}
-use Rattle.filter.specs.Steps.{Window}
 use Rattle.filter.proofs.Halving.{reached-here, reached-end}
-use Rattle.filter.proofs.Words.{words-ascend, samples-ascend, samples-few, window-next, window-rest, lower-from}
+use Rattle.filter.proofs.Words.{words-ascend, samples-ascend, samples-few, Narrowed, window-next, window-rest, lower-from}
 use Rattle.filter.proofs.inner.lower.Statement.{statement}
 use Rattle.filter.proofs.inner.lower.Tie as tie
 
@@ -43,43 +42,47 @@ after-samples-requires c κs =
 mul-lower-between : tie.Need-mul-lower-between
 mul-lower-between c = search needs
 
+-- what is known before the samples' places are searched
+narrowed : (c : tie.After-after-samples) → let a = c .before .before .before .before .before .before .before .before .args in Narrowed (a .n) (a .rows .now) (a .order .now) (a .samples .now) (a .m) (a .lo) (a .key) (c .before .count-below .result) (c .after-samples .result)
+narrowed c =
+    let w = c .before .before .before in
+    let s = w .before .before .before .before .before in
+    record {
+      ordered = s .pre .0;
+      sampled = s .pre .1;
+      within = omega (arith, s .pre .2, w .before .if1 .left);
+      low = subst (λ (x : ℕ). x < s .args .key) (w .word-at .ensures) (c .before .before .if2 .left);
+      count = c .before .count-below .ensures;
+      after = c .after-samples .ensures;
+    }
+
 lower-between-requires : tie.Need-lower-between-requires
 lower-between-requires c κs =
-    let w = c .before .before .before .before in
-    let s = w .before .before .before .before .before in
+    let d = c .before in
+    let s = d .before .before .before .before .before .before .before .before in
     let a = s .args in
-    (s .pre .0,
-     window-next (a .n) (a .rows .now) (a .order .now) (s .pre .0) (a .samples .now) (a .m) (s .pre .1) (a .lo) (a .key) (c .before .before .count-below .result) (c .before .after-samples .result)
-         (omega (arith, s .pre .2, w .before .if1 .left)) (subst (λ (x : ℕ). x < a .key) (w .word-at .ensures) (c .before .before .before .if2 .left)) (c .before .before .count-below .ensures) (c .before .after-samples .ensures) (c .if3 .taken))
+    (s .pre .0, window-next (a .n) (a .rows .now) (a .order .now) (a .samples .now) (a .m) (a .lo) (a .key) (d .before .count-below .result) (d .after-samples .result) (narrowed d) (c .if3 .taken))
 
 returns-3 : tie.Need-returns-3
 returns-3 c =
-    let d = c .before in
-    let w = d .before .before .before .before in
-    let s = w .before .before .before .before .before in
+    let d = c .before .before in
+    let s = d .before .before .before .before .before .before .before .before in
     let a = s .args in
-    lower-from (a .n) (a .rows .now) (a .order .now) (s .pre .0) (a .samples .now) (a .m) (s .pre .1) (a .lo) (a .key) (d .before .before .count-below .result) (d .before .after-samples .result)
-    (omega (arith, s .pre .2, w .before .if1 .left)) (subst (λ (x : ℕ). x < a .key) (w .word-at .ensures) (d .before .before .before .if2 .left)) (d .before .before .count-below .ensures) (d .before .after-samples .ensures)
-    (c .lower-between .result) (c .lower-between .ensures)
+    lower-from (a .n) (a .rows .now) (a .order .now) (a .samples .now) (a .m) (a .lo) (a .key) (d .before .count-below .result) (d .after-samples .result) (narrowed d) (c .lower-between .result) (c .lower-between .ensures)
 
 lower-between-requires-2 : tie.Need-lower-between-requires-2
 lower-between-requires-2 c κs =
-    let w = c .before .before .before .before in
-    let s = w .before .before .before .before .before in
+    let d = c .before in
+    let s = d .before .before .before .before .before .before .before .before in
     let a = s .args in
-    (s .pre .0,
-     window-rest (a .n) (a .rows .now) (a .order .now) (s .pre .0) (a .samples .now) (a .m) (s .pre .1) (a .lo) (a .key) (c .before .before .count-below .result) (c .before .after-samples .result)
-         (omega (arith, s .pre .2, w .before .if1 .left)) (subst (λ (x : ℕ). x < a .key) (w .word-at .ensures) (c .before .before .before .if2 .left)) (c .before .before .count-below .ensures) (c .before .after-samples .ensures))
+    (s .pre .0, window-rest (a .n) (a .rows .now) (a .order .now) (a .samples .now) (a .m) (a .lo) (a .key) (d .before .count-below .result) (d .after-samples .result) (narrowed d))
 
 returns-4 : tie.Need-returns-4
 returns-4 c =
-    let d = c .before in
-    let w = d .before .before .before .before in
-    let s = w .before .before .before .before .before in
+    let d = c .before .before in
+    let s = d .before .before .before .before .before .before .before .before in
     let a = s .args in
-    lower-from (a .n) (a .rows .now) (a .order .now) (s .pre .0) (a .samples .now) (a .m) (s .pre .1) (a .lo) (a .key) (d .before .before .count-below .result) (d .before .after-samples .result)
-    (omega (arith, s .pre .2, w .before .if1 .left)) (subst (λ (x : ℕ). x < a .key) (w .word-at .ensures) (d .before .before .before .if2 .left)) (d .before .before .count-below .ensures) (d .before .after-samples .ensures)
-    (c .lower-between2 .result) (c .lower-between2 .ensures)
+    lower-from (a .n) (a .rows .now) (a .order .now) (a .samples .now) (a .m) (a .lo) (a .key) (d .before .count-below .result) (d .after-samples .result) (narrowed d) (c .lower-between2 .result) (c .lower-between2 .ensures)
 
 pub lower-spec : {M : Type 1} → statement M
 lower-spec =

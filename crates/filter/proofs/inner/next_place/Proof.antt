@@ -1,20 +1,18 @@
-use native.Mathlib.Omega.{arith}
+-- `filter::inner::next_place` meets its contract: what holds from a place on holds from the next one on. Assumes nothing.
 use borrow.Author.Needs.{needs}
+use Rattle.filter.proofs.Keys.{sweeping-next}
 use Rattle.filter.proofs.inner.next_place.Statement.{statement}
 use Rattle.filter.proofs.inner.next_place.Tie as tie
-use Rattle.filter.proofs.inner.next_place.Reads as reads
-use Rattle.filter.proofs.inner.next_place.Lts as lts
-use Rattle.filter.proofs.inner.settle.Reads as settle-reads
 
--- src/inner.rt:202:59
 add-t8 : tie.Need-add-t8
 add-t8 c = search needs
 
--- src/inner.rt:202:5
 settle-requires : tie.Need-settle-requires
-settle-requires c κs = search needs
+settle-requires c κs =
+    let s = c .before .before .before .before in
+    let a = s .args in
+    (s .pre .0, s .pre .1, s .pre .2, sweeping-next (a .class) (s .pre .2) (a .n) (a .rows .now) (a .order .now) (a .s) (s .pre .4) (s .pre .3))
 
--- src/inner.rt:198:1
 returns : tie.Need-returns
 returns c = search needs
 

@@ -1,6 +1,6 @@
 -- `filter::inner::sample` meets its contract: j samples are taken. Assumes nothing.
 use mathlib.Core.Path.{_≡_, refl, _∙_}
-use Prim.Native.Nat.{ℕ, _+_, _-_, _*_, _≤_}
+use Prim.Native.Nat.{_+_, _-_, _*_, _≤_}
 use lib.ListN.{length, length-set}
 use borrow.Author.Needs.{needs}
 use native.Mathlib.Omega.{arith}
@@ -50,10 +50,11 @@ loop-again c =
     let t = c .before .before in
     let l = t .before .loop in
     let s = t .before .before .before .before .before in
-    let a = s .args in
-    (length-set (l .samples) (l .j) (c .word-at .result) ∙ l .inv .0,
-     omega (arith, t .loop-test .taken),
-     sampled-more (a .n) (a .rows .now) (a .order .now) s .pre (l .samples) (l .j) (l .inv .2) (c .word-at .result) (omega (arith, l .inv .2 .fit, c .before .if1 .left)) (t .loop-test .taken) (c .word-at .ensures))
+    let a = s .args in (
+      length-set (l .samples) (l .j) (c .word-at .result) ∙ l .inv .0,
+      omega (arith, t .loop-test .taken),
+      sampled-more (a .n) (a .rows .now) (a .order .now) (s .pre) (l .samples) (l .j) (l .inv .2) (c .word-at .result) (omega (arith, l .inv .2 .fit, c .before .if1 .left)) (t .loop-test .taken) (c .word-at .ensures),
+    )
 
 same-length-2 : tie.Need-same-length-2 Inv-loop μ-loop
 same-length-2 c = search needs

@@ -1,5 +1,5 @@
 -- `filter::inner::scan_class` meets its contract: none is of the class up to place i. Assumes nothing.
-use mathlib.Core.Path.{_≡_, sym, ap, _∙_}
+use mathlib.Core.Path.{ap, _∙_}
 use Prim.Native.Nat.{ℕ, _-_, _%_, _≤_}
 use lib.ListN.{getD}
 use borrow.Author.Needs.{needs}
@@ -58,10 +58,11 @@ loop-again c =
     let l = w .before .before .loop in
     let s = w .before .before .before .before .before in
     let a = s .args in
-    let is = r .reduce .ensures ∙ ap (λ (x : ℕ). x % modulus (a .class .bits)) (w .word-at .ensures) in
-    (omega (arith, l .inv .0),
-     omega (arith, w .before .loop-test .taken),
-     skips-more (inClass (a .class) (a .rows .now)) (a .order .now) (a .at) (l .i) (l .inv .2) (class-no (a .class) (s .pre .1) (a .rows .now) (getD (a .order .now) (l .i) 0) (r .reduce .result) is (c .if1 .left)))
+    let is = r .reduce .ensures ∙ ap (λ (x : ℕ). x % modulus (a .class .bits)) (w .word-at .ensures) in (
+      omega (arith, l .inv .0),
+      omega (arith, w .before .loop-test .taken),
+      skips-more (inClass (a .class) (a .rows .now)) (a .order .now) (a .at) (l .i) (l .inv .2) (class-no (a .class) (s .pre .1) (a .rows .now) (getD (a .order .now) (l .i) 0) (r .reduce .result) is (c .if1 .left)),
+    )
 
 returns-2 : tie.Need-returns-2 Inv-loop μ-loop
 returns-2 c =

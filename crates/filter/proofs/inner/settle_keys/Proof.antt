@@ -1,6 +1,6 @@
 -- `filter::inner::settle_keys` meets its contract: from `at` on, no word of the class is below the key, and before it none is of the class. Assumes nothing.
-use mathlib.Core.Path.{sym, subst, _∙_}
-use Prim.Native.Nat.{ℕ, _≤_, _<_}
+use mathlib.Core.Path.{sym, _∙_}
+use Prim.Native.Nat.{_<_}
 use borrow.Author.Needs.{needs}
 use native.Mathlib.Omega.{arith}
 use Rattle.filter.proofs.Keys.{Going, going-start, going-lower, going-end, going-hit, going-next, going-done}
