@@ -3,11 +3,12 @@ use mathlib.Core.Path.{_≡_, refl, sym, ap, _∙_, subst}
 use mathlib.Core.Bool.{Bool, true, false}
 use mathlib.Core.Logic.{_⊎_, inl, inr}
 use mathlib.Core.List.{List, [], _∷_, _++_, map, flatMap}
+use mathlib.Core.Option.{some}
 use Prim.Native.Nat.{ℕ, zero, suc, _+_, _≤_, _<_}
 use native.Mathlib.Nat.{eq-or-lt-of-le}
 use native.Mathlib.Omega.{arith}
 use lib.ListN.{getD, length}
-use Rattle.arith.specs.Lists.{countUp, In}
+use Rattle.arith.specs.Lists.{countUp, In, keep, firstThat}
 
 pub false-true : false ≡ true → ⊥
 false-true p = let z : _≡_ {A = ℕ} 0 1 = cc in omega arith
@@ -15,6 +16,11 @@ false-true p = let z : _≡_ {A = ℕ} 0 1 = cc in omega arith
 pub bool-cases : (b : Bool) → (b ≡ true) ⊎ (b ≡ false)
 bool-cases true = inl refl
 bool-cases false = inr refl
+
+-- what isn't true is false
+pub is-false : (b : Bool) → (b ≡ true → ⊥) → b ≡ false
+is-false true h = absurd (h refl)
+is-false false h = refl
 
 -- ---- membership
 pub in-left : {A : Type 0} (x : A) (xs ys : List A) → In x xs → In x (xs ++ ys)
@@ -112,3 +118,21 @@ pub in-place : {A : Type 0} (d x : A) (xs : List A) → In x xs → Place d x xs
 in-place d x [] h = absurd h
 in-place d x (y ∷ xs) (inl e) = record { i = 0; below = omega arith; is = sym e }
 in-place d x (y ∷ xs) (inr h) = let p = in-place d x xs h in record { i = suc (p .i); below = omega (arith, p .below); is = p .is }
+
+-- ---- what passes a test
+module _ {A : Type 0} (test : A → Bool) (x : A) (l : List A) where
+  pub keep-yes : test x ≡ true → keep test (x ∷ l) ≡ x ∷ keep test l
+  unfolding keep
+  keep-yes e = rw (e, keep)
+
+  pub keep-no : test x ≡ false → keep test (x ∷ l) ≡ keep test l
+  unfolding keep
+  keep-no e = rw (e, keep)
+
+  pub first-yes : test x ≡ true → firstThat test (x ∷ l) ≡ some x
+  unfolding firstThat
+  first-yes e = rw (e, firstThat)
+
+  pub first-no : test x ≡ false → firstThat test (x ∷ l) ≡ firstThat test l
+  unfolding firstThat
+  first-no e = rw (e, firstThat)

@@ -1,0 +1,5 @@
+-- The laws of this crate, which the crates above cite too.
+pub mod PlaceLaws
+pub mod Halving
+pub mod Words
+pub mod Keys
