@@ -8,6 +8,11 @@ ghost use Rattle.simd.specs.Gates.{rowOr, applied, residual, matchSays, 
 // The words of a row (N_PROBES).
 pub const ROW_WORDS: usize = 16;
 
+// 01's slots: an atom's number in the bank and a pair's number in the index, never taken for one another.
+pub struct AtomSlot(pub u32);
+
+pub struct PairSlot(pub u32);
+
 pub enum Gate {
     And,
     Or,
