@@ -1,7 +1,7 @@
 // The phases of a bank build, over arrays that have been tested.
 use entry::Unary;
-use pool::AtomSlot;
 use probe::Point;
+use simd::AtomSlot;
 ghost use mathlib.Core.List.{[], _∷_};
 ghost use Prim.Native.Nat.{_<_};
 ghost use lib.ListN.{length};

@@ -3,10 +3,10 @@ pub mod inner;
 
 use entry::ATOM_TOKENS;
 use pool::ATOMS_MAX;
-use pool::AtomSlot;
 use pool::COST_NUMBERS;
 use pool::WORK_WORDS;
 use probe::Point;
+use simd::AtomSlot;
 use simd::ROW_WORDS;
 ghost use mathlib.Core.Path.{_≡_};
 ghost use Prim.Native.Nat.{_*_, _^_, _≤_};

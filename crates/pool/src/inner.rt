@@ -1,5 +1,4 @@
 // What the crates above call. The bank's count n is how many atoms it has; an atom is named by its slot.
-use crate::AtomSlot;
 use crate::COST_NUMBERS;
 use crate::MAP_BITS;
 use crate::parts;
@@ -7,6 +6,7 @@ use entry::ATOM_TOKENS;
 use entry::Entry;
 use entry::Formula;
 use expr::Cost;
+use simd::AtomSlot;
 use simd::ROW_WORDS;
 use valmap::Lookup;
 ghost use mathlib.Core.Path.{_≡_};

@@ -2,9 +2,6 @@
 pub mod inner;
 mod parts;
 
-// An atom's place in the bank. Atom slots and pair slots are never taken for one another.
-pub struct AtomSlot(pub u32);
-
 // The most atoms of a bank.
 pub const ATOMS_MAX: usize = 479;
 

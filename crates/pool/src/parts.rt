@@ -1,8 +1,8 @@
 // One atom's part of each lent array: written into the part that is lent, and loaded by value from a slot.
-use crate::AtomSlot;
 use crate::COST_NUMBERS;
 use entry::ATOM_TOKENS;
 use expr::Cost;
+use simd::AtomSlot;
 ghost use mathlib.Core.Path.{_≡_};
 ghost use Prim.Native.Nat.{_+_, _*_, _≤_};
 ghost use lib.ListN.{length};

@@ -1,5 +1,6 @@
 // The two maps in the work area: that of the bank's rows in its first words, and that of the pairs' rows after it.
 use crate::inner::Job;
+use simd::PairSlot;
 use valmap::Lookup;
 ghost use mathlib.Core.Path.{_≡_};
 ghost use Prim.Native.Nat.{_+_, _*_, _^_, _≤_, _<_};
@@ -97,9 +98,9 @@ pub fn find_pair(
 }
 
 // Takes pair n into its chain.
-pub fn insert_pair(work: &mut [u32], bits: u32, n: usize, home: u32)
-    requires { ⌜ (bankArea ≤ length (now work)) × Room (drop bankArea (now work)) bits n home ⌝ }
-    ensures { λ _. ⌜ InsertedPair (now (work .entry)) (now (work .exit)) bits n home ⌝ }
+pub fn insert_pair(work: &mut [u32], bits: u32, n: PairSlot, home: u32)
+    requires { ⌜ (bankArea ≤ length (now work)) × Room (drop bankArea (now work)) bits (n .0) home ⌝ }
+    ensures { λ _. ⌜ InsertedPair (now (work .entry)) (now (work .exit)) bits (n .0) home ⌝ }
 {
-    valmap::inner::insert(&mut work[BANK_AREA..], bits, n, home);
+    valmap::inner::insert(&mut work[BANK_AREA..], bits, n.0 as usize, home);
 }

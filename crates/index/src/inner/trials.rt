@@ -3,7 +3,9 @@ use crate::inner::Job;
 use crate::inner::PAIR_WORDS;
 use crate::inner::Tally;
 use crate::inner::maps;
+use simd::AtomSlot;
 use simd::Gate;
+use simd::PairSlot;
 use simd::ROW_WORDS;
 use valmap::Lookup;
 ghost use mathlib.Core.Path.{_≡_};
@@ -67,12 +69,12 @@ fn first_c(g: Gate, b: usize) -> usize
 }
 
 // The gate of rows b and c, straight from the lent rows: so LLVM makes vectors of it.
-fn gate_of_rows(rows: &[u64], b: usize, c: usize, g: Gate, w: u32) -> [u64; 16]
-    requires { ⌜ (16 * b + 16 ≤ length (now rows)) × (16 * c + 16 ≤ length (now rows)) × (w ≤ 64) ⌝ }
-    ensures { λ r. ⌜ r ≡ gateRow g w (partAt 16 (now (rows .entry)) b) (partAt 16 (now (rows .entry)) c) ⌝ }
+fn gate_of_rows(rows: &[u64], b: AtomSlot, c: AtomSlot, g: Gate, w: u32) -> [u64; 16]
+    requires { ⌜ (16 * b .0 + 16 ≤ length (now rows)) × (16 * c .0 + 16 ≤ length (now rows)) × (w ≤ 64) ⌝ }
+    ensures { λ r. ⌜ r ≡ gateRow g w (partAt 16 (now (rows .entry)) (b .0)) (partAt 16 (now (rows .entry)) (c .0)) ⌝ }
 {
-    let at_b = ROW_WORDS * b;
-    let at_c = ROW_WORDS * c;
+    let at_b = ROW_WORDS * b.0 as usize;
+    let at_c = ROW_WORDS * c.0 as usize;
     let mut row = [0u64; ROW_WORDS];
     let mut i: usize = 0;
     while i < ROW_WORDS {
@@ -83,31 +85,31 @@ fn gate_of_rows(rows: &[u64], b: usize, c: usize, g: Gate, w: u32) -> [u64; 16]
 }
 
 // Row n of the pairs' rows: its own sixteen words are lent to the row writer.
-fn put_row(listed: &mut [u64], n: usize, row: [u64; 16])
-    requires { ⌜ 16 * n + 16 ≤ length (now listed) ⌝ }
-    ensures { λ _. ⌜ now (listed .exit) ≡ putPart 16 (now (listed .entry)) n row ⌝ }
+fn put_row(listed: &mut [u64], n: PairSlot, row: [u64; 16])
+    requires { ⌜ 16 * n .0 + 16 ≤ length (now listed) ⌝ }
+    ensures { λ _. ⌜ now (listed .exit) ≡ putPart 16 (now (listed .entry)) (n .0) row ⌝ }
 {
-    let at = ROW_WORDS * n;
+    let at = ROW_WORDS * n.0 as usize;
     let end = at + ROW_WORDS;
     simd::inner::write_row(&mut listed[at..end], row);
 }
 
 // A pair's three words.
-fn write_pair(part: &mut [u32], g: Gate, b: u32, c: u32)
+fn write_pair(part: &mut [u32], g: Gate, b: AtomSlot, c: AtomSlot)
     requires { ⌜ length (now part) ≡ 3 ⌝ }
-    ensures { λ _. ⌜ now (part .exit) ≡ gateNumber g ∷ (b ∷ (c ∷ [])) ⌝ }
+    ensures { λ _. ⌜ now (part .exit) ≡ gateNumber g ∷ (b .0 ∷ (c .0 ∷ [])) ⌝ }
 {
     part[0] = gate_number(g);
-    part[1] = b;
-    part[2] = c;
+    part[1] = b.0;
+    part[2] = c.0;
 }
 
 // Pair n: gate, b and c.
-fn put_pair(pairs: &mut [u32], n: usize, g: Gate, b: u32, c: u32)
-    requires { ⌜ 3 * n + 3 ≤ length (now pairs) ⌝ }
-    ensures { λ _. ⌜ now (pairs .exit) ≡ putPart 3 (now (pairs .entry)) n (gateNumber g ∷ (b ∷ (c ∷ []))) ⌝ }
+fn put_pair(pairs: &mut [u32], n: PairSlot, g: Gate, b: AtomSlot, c: AtomSlot)
+    requires { ⌜ 3 * n .0 + 3 ≤ length (now pairs) ⌝ }
+    ensures { λ _. ⌜ now (pairs .exit) ≡ putPart 3 (now (pairs .entry)) (n .0) (gateNumber g ∷ (b .0 ∷ (c .0 ∷ []))) ⌝ }
 {
-    let at = PAIR_WORDS * n;
+    let at = PAIR_WORDS * n.0 as usize;
     let end = at + PAIR_WORDS;
     write_pair(&mut pairs[at..end], g, b, c);
 }
@@ -119,18 +121,18 @@ fn list_pair(
     listed: &mut [u64],
     rows: &[u64],
     job: Job,
-    n: usize,
+    n: PairSlot,
     home: u32,
     g: Gate,
-    b: usize,
-    c: usize,
+    b: AtomSlot,
+    c: AtomSlot,
     row: [u64; 16],
 )
-    requires { ⌜ Ready job (now rows) (now work) (now pairs) (now listed) n × Listable job n home row b c ⌝ }
-    ensures { λ _. ⌜ ListedPair job (now (rows .entry)) (now (pairs .entry)) (now (listed .entry)) (now (work .exit)) (now (pairs .exit)) (now (listed .exit)) n g b c row ⌝ }
+    requires { ⌜ Ready job (now rows) (now work) (now pairs) (now listed) (n .0) × Listable job (n .0) home row (b .0) (c .0) ⌝ }
+    ensures { λ _. ⌜ ListedPair job (now (rows .entry)) (now (pairs .entry)) (now (listed .entry)) (now (work .exit)) (now (pairs .exit)) (now (listed .exit)) (n .0) g (b .0) (c .0) row ⌝ }
 {
     put_row(listed, n, row);
-    put_pair(pairs, n, g, b as u32, c as u32);
+    put_pair(pairs, n, g, b, c);
     maps::insert_pair(work, job.bits, n, home);
 }
 
@@ -143,11 +145,11 @@ fn try_pair(
     job: Job,
     n: usize,
     g: Gate,
-    b: usize,
-    c: usize,
+    b: AtomSlot,
+    c: AtomSlot,
 ) -> Tally
-    requires { ⌜ Ready job (now rows) (now work) (now pairs) (now listed) n × (b < job .count) × (c < job .count) ⌝ }
-    ensures { λ r. ⌜ Ran job (now (rows .entry)) (now (pairs .entry)) (now (listed .entry)) n (now (work .exit)) (now (pairs .exit)) (now (listed .exit)) r (trial g b c ∷ []) ⌝ }
+    requires { ⌜ Ready job (now rows) (now work) (now pairs) (now listed) n × (b .0 < job .count) × (c .0 < job .count) ⌝ }
+    ensures { λ r. ⌜ Ran job (now (rows .entry)) (now (pairs .entry)) (now (listed .entry)) n (now (work .exit)) (now (pairs .exit)) (now (listed .exit)) r (trial g (b .0) (c .0) ∷ []) ⌝ }
 {
     let row = gate_of_rows(rows, b, c, g, job.w);
     let print = probe::fingerprint(row);
@@ -169,7 +171,8 @@ fn try_pair(
                     cut: true, // the row is new, and there is no room
                 };
             }
-            list_pair(work, pairs, listed, rows, job, n, home, g, b, c, row);
+            let slot = PairSlot(n as u32);
+            list_pair(work, pairs, listed, rows, job, slot, home, g, b, c, row);
             Tally {
                 pairs: n + 1,
                 cut: false, // the row is new, and there was room
@@ -187,16 +190,17 @@ fn try_with(
     job: Job,
     n: usize,
     g: Gate,
-    b: usize,
+    b: AtomSlot,
 ) -> Tally
-    requires { ⌜ Ready job (now rows) (now work) (now pairs) (now listed) n × (b < job .count) ⌝ }
-    ensures { λ r. ⌜ Ran job (now (rows .entry)) (now (pairs .entry)) (now (listed .entry)) n (now (work .exit)) (now (pairs .exit)) (now (listed .exit)) r (trialsWith (job .count) g b) ⌝ }
+    requires { ⌜ Ready job (now rows) (now work) (now pairs) (now listed) n × (b .0 < job .count) ⌝ }
+    ensures { λ r. ⌜ Ran job (now (rows .entry)) (now (pairs .entry)) (now (listed .entry)) n (now (work .exit)) (now (pairs .exit)) (now (listed .exit)) r (trialsWith (job .count) g (b .0)) ⌝ }
 {
     let count = job.count;
     let mut made = n;
-    let mut c = first_c(g, b);
+    let mut c = first_c(g, b.0 as usize);
     while c < count {
-        let t = try_pair(work, pairs, listed, rows, job, made, g, b, c);
+        let slot = AtomSlot(c as u32);
+        let t = try_pair(work, pairs, listed, rows, job, made, g, b, slot);
         c += 1;
         if t.cut {
             return t;
@@ -226,7 +230,8 @@ fn try_gate(
     let mut made = n;
     let mut b: usize = 0;
     while b < count {
-        let t = try_with(work, pairs, listed, rows, job, made, g, b);
+        let slot = AtomSlot(b as u32);
+        let t = try_with(work, pairs, listed, rows, job, made, g, slot);
         b += 1;
         if t.cut {
             return t;

@@ -1,6 +1,6 @@
 -- `index::inner::trials::gate_of_rows` meets its contract: the places passed hold what `gateOf` gives there. Assumes nothing.
 use mathlib.Core.Path.{_≡_, refl, sym, ap₂, _∙_}
-use Prim.Native.Nat.{ℕ, _-_, _≤_}
+use Prim.Native.Nat.{ℕ, _+_, _-_, _≤_}
 use native.Mathlib.Omega.{arith}
 use borrow.Author.Needs.{needs}
 use lib.ListN.{length, getD, length-set}
@@ -8,23 +8,24 @@ use Rattle.arith.specs.Parts.{partAt}
 use Rattle.arith.proofs.Parts.{length-part, getD-part}
 use Rattle.arith.proofs.Fill.{Filled, filled-more, zipped}
 use Rattle.simd.specs.Gates.{gateOf, gateRow}
-use mathlib.Core.Path.{_≡_, refl}
-use Prim.Native.Nat.{ℕ, _-_, _≤_}
-use lib.ListN.{length, getD}
-use Rattle.arith.proofs.Fill.{Filled}
-use Rattle.simd.specs.Gates.{gateOf}
 use Rattle.index.proofs.inner.trials.gate_of_rows.Statement.{statement}
 use Rattle.index.proofs.inner.trials.gate_of_rows.Tie as tie
 
 abbrev Inv-loop : tie.InvT-loop
-Inv-loop rows b c g w at-b at-c row₀ i₀ row i =
-    (i ≤ 16) × ((length row ≡ 16) × Filled (λ (k : ℕ). gateOf g w (getD (partAt 16 rows b) k 0) (getD (partAt 16 rows c) k 0)) row i)
+Inv-loop rows g w at-b at-c row₀ i₀ row i =
+    (i ≤ 16) × ((length row ≡ 16) × Filled (λ (k : ℕ). gateOf g w (getD rows (at-b + k) 0) (getD rows (at-c + k) 0)) row i)
 
 abbrev μ-loop : tie.MeasureT-loop
-μ-loop rows b c g w at-b at-c row₀ i₀ row i = 16 - i
+μ-loop rows g w at-b at-c row₀ i₀ row i = 16 - i
+
+cast-at-b : tie.Need-cast-at-b Inv-loop μ-loop
+cast-at-b c = search needs
 
 mul-at-b : tie.Need-mul-at-b Inv-loop μ-loop
 mul-at-b c = search needs
+
+cast-at-c : tie.Need-cast-at-c Inv-loop μ-loop
+cast-at-c c = search needs
 
 mul-at-c : tie.Need-mul-at-c Inv-loop μ-loop
 mul-at-c c = search needs
@@ -68,13 +69,11 @@ loop-less c = search needs
 loop-again : tie.Need-loop-again Inv-loop μ-loop
 loop-again c =
     let t = c .before .before .before .before in
-    let s = t .before .before .args in
     let l = t .loop in (
       omega arith,
       (
         simp length-set (omega arith),
-        filled-more _ (l .row) (l .i) (c .gate-apply-lane .result) (omega arith) (l .inv .1 .1)
-            (c .gate-apply-lane .ensures ∙ sym (ap₂ (gateOf (s .g) (s .w)) (getD-part 16 (s .rows .now) (s .b) (l .i) (omega arith)) (getD-part 16 (s .rows .now) (s .c) (l .i) (omega arith)))),
+        filled-more _ (l .row) (l .i) (c .gate-apply-lane .result) (omega arith) (l .inv .1 .1) (c .gate-apply-lane .ensures),
       ),
     )
 
@@ -82,11 +81,12 @@ returns : tie.Need-returns Inv-loop μ-loop
 unfolding gateRow
 returns c =
     let t = c .before in
-    let s = t .before .before in
+    let s = t .before .before .before .before in
     let a = s .args in
-    let lb = length-part 16 (a .rows .now) (a .b) (s .pre .0) in
-    let lc = length-part 16 (a .rows .now) (a .c) (s .pre .1) in
-    zipped (gateOf (a .g) (a .w)) (partAt 16 (a .rows .now) (a .b)) (partAt 16 (a .rows .now) (a .c)) (t .loop .row) (t .loop .i) (omega arith) (omega arith) (omega arith) (t .loop .inv .1 .1)
+    let lb = length-part 16 (a .rows .now) (a .b .0) (s .pre .0) in
+    let lc = length-part 16 (a .rows .now) (a .c .0) (s .pre .1) in
+    zipped (gateOf (a .g) (a .w)) (partAt 16 (a .rows .now) (a .b .0)) (partAt 16 (a .rows .now) (a .c .0)) (t .loop .row) (t .loop .i) (omega arith) (omega arith) (omega arith)
+    (λ k h. t .loop .inv .1 .1 k h ∙ sym (ap₂ (gateOf (a .g) (a .w)) (getD-part 16 (a .rows .now) (a .b .0) k (omega arith)) (getD-part 16 (a .rows .now) (a .c .0) k (omega arith))))
 
 pub gate-of-rows-spec : {M : Type 1} → statement M
 gate-of-rows-spec =
@@ -94,7 +94,9 @@ gate-of-rows-spec =
     (tie.spec
     Inv-loop
     μ-loop
+    cast-at-b
     mul-at-b
+    cast-at-c
     mul-at-c
     loop-holds
     add-gate-apply-lane

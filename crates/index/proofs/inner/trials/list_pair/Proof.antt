@@ -7,22 +7,11 @@ use lib.ListN.{length, length-drop}
 use Rattle.index.specs.Steps.{bankArea}
 use Rattle.index.proofs.RowLaws.{put-long}
 use Rattle.index.proofs.StepLaws.{ready-more}
-use mathlib.Core.Path.{_≡_}
-use Prim.Native.Nat.{_-_}
-use lib.ListN.{length, length-drop}
-use Rattle.index.specs.Steps.{bankArea}
-use Rattle.index.proofs.StepLaws.{ready-more}
 use Rattle.index.proofs.inner.trials.list_pair.Statement.{statement}
 use Rattle.index.proofs.inner.trials.list_pair.Tie as tie
 
 put-row-requires : tie.Need-put-row-requires
 put-row-requires c κs = search needs
-
-cast-put-pair : tie.Need-cast-put-pair
-cast-put-pair c = search needs
-
-cast-put-pair-2 : tie.Need-cast-put-pair-2
-cast-put-pair-2 c = search needs
 
 put-pair-requires : tie.Need-put-pair-requires
 put-pair-requires c κs = search needs
@@ -59,9 +48,9 @@ returns c =
     let put = c .before .before .insert-pair in
     let size = s .pre .0 .sized in
     let able = s .pre .1 in
-    let long : length (a .row) ≡ 16 = put-long (a .n) (a .listed .now) (a .row) (omega (arith, size .rows-fit, able .room)) (sym (ap length (row .ensures)) ∙ row .kept .0) in
+    let long : length (a .row) ≡ 16 = put-long (a .n .0) (a .listed .now) (a .row) (omega (arith, size .rows-fit, able .room)) (sym (ap length (row .ensures)) ∙ row .kept .0) in
     record {
-      ready = ready-more (a .job) (a .rows .now) (a .work .now) (a .pairs .now) (a .listed .now) (a .n) (s .pre .0) _ _ _ (a .home) (a .row) (a .b) (a .c) (s .pre .1) long
+      ready = ready-more (a .job) (a .rows .now) (a .work .now) (a .pairs .now) (a .listed .now) (a .n .0) (s .pre .0) _ _ _ (a .home) (a .row) (a .b .0) (a .c .0) (s .pre .1) long
           (put .kept .0) (pair .kept .0) (row .ensures) (put .ensures);
       pairs-are = pair .ensures;
       rows-are = row .ensures;
@@ -72,8 +61,6 @@ list-pair-spec =
     tie.close
     (tie.spec
     put-row-requires
-    cast-put-pair
-    cast-put-pair-2
     put-pair-requires
     insert-pair-requires
     same-length

@@ -6,6 +6,9 @@ use Rattle.arith.proofs.Parts.{put-is}
 use Rattle.index.proofs.inner.trials.put_pair.Statement.{statement}
 use Rattle.index.proofs.inner.trials.put_pair.Tie as tie
 
+cast-at : tie.Need-cast-at
+cast-at c = search needs
+
 mul-at : tie.Need-mul-at
 mul-at c = search needs
 
@@ -32,14 +35,15 @@ same-length c = search needs
 
 returns : tie.Need-returns
 returns c =
-    let s = c .before .before .before .before .before in
+    let s = c .before .before .before .before .before .before in
     let w = c .before .before .write-pair in
-    put-is 3 (s .args .pairs .now) (s .args .n) _ ∙ ap (putPart 3 (s .args .pairs .now) (s .args .n)) (w .ensures)
+    put-is 3 (s .args .pairs .now) (s .args .n .0) _ ∙ ap (putPart 3 (s .args .pairs .now) (s .args .n .0)) (w .ensures)
 
 pub put-pair-spec : {M : Type 1} → statement M
 put-pair-spec =
     tie.close
     (tie.spec
+    cast-at
     mul-at
     add-end
     mul-write-pair

@@ -30,6 +30,9 @@ loop-holds c =
       },
     )
 
+cast-t14 : tie.Need-cast-t14 Inv-loop μ-loop
+cast-t14 c = search needs
+
 try-with-requires : tie.Need-try-with-requires Inv-loop μ-loop
 try-with-requires c κs = (c .before .before .before .before .loop .inv .1 .ran .ready, c .before .before .before .loop-test .taken)
 
@@ -93,6 +96,7 @@ try-gate-spec =
     Inv-loop
     μ-loop
     loop-holds
+    cast-t14
     try-with-requires
     add-b
     same-length

@@ -25,7 +25,7 @@ same-length c = search needs
 returns : tie.Need-returns
 returns c =
     let s = c .before .before in
-    three (s .args .part .now) _ (s .args .b) (s .args .c) (s .pre) ∙ ap (λ (x : ℕ). x ∷ (s .args .b ∷ (s .args .c ∷ []))) (c .gate-number .ensures)
+    three (s .args .part .now) _ (s .args .b .0) (s .args .c .0) (s .pre) ∙ ap (λ (x : ℕ). x ∷ (s .args .b .0 ∷ (s .args .c .0 ∷ []))) (c .gate-number .ensures)
 
 pub write-pair-spec : {M : Type 1} → statement M
 write-pair-spec =
