@@ -18,7 +18,12 @@ pub record Keeps (numbers ns : List ℕ) : Type 0 where
   pub room : length numbers ≡ kept
   pub is : (i : ℕ) → i < kept → i < length ns → getD numbers i 0 ≡ getD ns i 0
 
--- what isn't spoilt: `done` numbers are read, and the rest of the text begins in `word`
+-- the numbers done and then those of the rest, none if the rest has none
+unfoldable pub ahead : List ℕ → Option (List ℕ) → Option (List ℕ)
+ahead done none = none
+ahead done (some ns) = some (done ++ ns)
+
+-- what isn't spoilt: the numbers `done` are read, and the rest of the text begins in `word`
 pub record Midway (p : Parse) (text : List ℕ) : Type 0 where
   pub done : List ℕ
   pub word : List ℕ
@@ -30,8 +35,7 @@ pub record Midway (p : Parse) (text : List ℕ) : Type 0 where
   pub begun : p .within ≡ true → 0 < length word
   pub between : p .within ≡ false → word ≡ []
   -- whatever follows, the whole text's numbers are those done and those of the rest
-  pub splits : (rest done′ : List ℕ) → numbersOf (wordsAfter word rest) ≡ some done′ → numbersOf (wordsOf (text ++ rest)) ≡ some (done ++ done′)
-  pub spoils : (rest : List ℕ) → numbersOf (wordsAfter word rest) ≡ none → numbersOf (wordsOf (text ++ rest)) ≡ none
+  pub splits : (rest : List ℕ) → numbersOf (wordsOf (text ++ rest)) ≡ ahead done (numbersOf (wordsAfter word rest))
 
 -- the state after a text
 pub record Reads (p : Parse) (text : List ℕ) : Type 0 where
