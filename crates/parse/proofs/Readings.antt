@@ -1,11 +1,10 @@
 -- What one byte does to a reading, and what its end says: the words of the whole text are those done, the one begun, and those of the rest.
 -- Assumes nothing.
-use mathlib.Core.Path.{_≡_, refl, sym, ap, _∙_, subst}
-use mathlib.Core.Bool.{Bool, true, false, cond, _&&_, and-false}
+use mathlib.Core.Path.{_≡_, refl, sym, ap, _∙_}
+use mathlib.Core.Bool.{Bool, true, false, _&&_, and-false}
 use mathlib.Core.List.{List, [], _∷_, _++_, append-nil}
-use mathlib.Core.Logic.{_⊎_, inl, inr}
 use mathlib.Core.Option.{Option, none, some}
-use Prim.Native.Nat.{ℕ, suc, _+_, _-_, _*_, _%_, _≤_, _<_, _^_}
+use Prim.Native.Nat.{ℕ, _+_, _-_, _*_, _%_, _≤_, _<_, _^_}
 use native.Mathlib.Nat.{mod-eq-of-lt}
 use native.Mathlib.Decide.{ℕ-discrete}
 use native.Mathlib.Omega.{arith}
@@ -17,7 +16,7 @@ use Rattle.arith.proofs.Lists.{false-true}
 use Rattle.parse.specs.declared.Parse.{Parse}
 use Rattle.parse.specs.declared.Input.{Input}
 use Rattle.parse.specs.Text.{isParting, isDigit, allDigits, valueOf, isNumber, withWord, wordsAfter, wordsOf, before, numbersOf, rightMany, ifRight, readText}
-use Rattle.parse.specs.Reading.{kept, Keeps, ahead, Midway, Reads, Given, Ends}
+use Rattle.parse.specs.Reading.{kept, Keeps, ahead, Midway, Reads, Ends}
 use Rattle.parse.specs.Steps.{Fed, Parted}
 use Rattle.parse.proofs.Words.{digits-snoc, value-snoc, spoils, after-parting, after-other, numbers-of, ahead-before, parted-end}
 

@@ -17,7 +17,7 @@ const NUMBERS_LEAST: u64 = 19;
 
 const NUMBERS_MORE: u64 = 16;
 
-// The largest value that a number may have, and the largest that another digit may follow.
+// The largest value that a number may have, and the largest that 10 times it may have.
 const VALUE_MAX: u64 = 18446744073709551615;
 
 const VALUE_TENTH: u64 = 1844674407370955161;
@@ -55,23 +55,23 @@ pub fn begin() -> Parse
 fn is_parting(b: u8) -> bool
     ensures { λ r. ⌜ r ≡ isParting b ⌝ }
 {
-    if b == 32 {
+    if b == b' ' {
         return true;
     }
-    if b == 10 {
+    if b == b'\n' {
         return true;
     }
-    b == 13
+    b == b'\r'
 }
 
 // Whether the byte is one of 0 to 9.
 fn is_digit(b: u8) -> bool
     ensures { λ r. ⌜ r ≡ isDigit b ⌝ }
 {
-    if b < 48 {
+    if b < b'0' {
         return false;
     }
-    b <= 57
+    b <= b'9'
 }
 
 // No text that begins so is let through.
@@ -87,7 +87,7 @@ fn lengthen(mut p: Parse, b: u8) -> Parse
     requires { ⌜ isDigit b ≡ true ⌝ }
     ensures { λ r. ⌜ (p .spoilt ≡ false → Fed p b r) ⌝ }
 {
-    let digit = (b - 48) as u64;
+    let digit = (b - b'0') as u64;
     if p.value > VALUE_TENTH {
         return spoil(p);
     }
@@ -100,14 +100,14 @@ fn lengthen(mut p: Parse, b: u8) -> Parse
     p
 }
 
-// The number that was begun is at its end: it is counted, and kept if there is a place.
+// Counts the number that is begun, and keeps it if there is a place.
 fn close(p: Parse) -> Parse
     requires { ⌜ (p .within ≡ true) × (p .spoilt ≡ false) ⌝ }
     ensures { λ r. ⌜ Parted p r ⌝ }
 {
     let mut numbers = p.numbers;
     let count = p.count;
-    if count < 115 {
+    if count < NUMBERS_MAX as u64 {
         numbers[count as usize] = p.value;
     }
     Parse {
@@ -119,8 +119,8 @@ fn close(p: Parse) -> Parse
     }
 }
 
-// A parting byte: the number before it is at its end, if one is begun.
-fn part(p: Parse) -> Parse
+// A parting byte, or the end of the text: a number that is begun is at its end.
+fn end_number(p: Parse) -> Parse
     requires { ⌜ p .spoilt ≡ false ⌝ }
     ensures { λ r. ⌜ Parted p r ⌝ }
 {
@@ -138,7 +138,7 @@ fn feed_byte(p: Parse, b: u8) -> Parse
         return p;
     }
     if is_parting(b) {
-        return part(p);
+        return end_number(p);
     }
     if is_digit(b) {
         return lengthen(p, b);
@@ -146,7 +146,7 @@ fn feed_byte(p: Parse, b: u8) -> Parse
     spoil(p)
 }
 
-// Reads a further part of the text, which may be as long as 2^64 bytes in all.
+// Reads a further part of the text, which in all is shorter than 2^64 bytes.
 pub fn feed(p: Parse, part: &[u8]) -> Parse
     ensures { λ r. ⌜ ((text : List ℕ) → length text + length (now (part .entry)) < 2 ^ 64 → Reads p text → Reads r (text ++ now (part .entry))) ⌝ }
 {
@@ -183,7 +183,7 @@ pub fn finish(p: Parse) -> Input
             numbers: [0; NUMBERS_MAX],
         };
     }
-    let q = part(p);
+    let q = end_number(p);
     let numbers = q.numbers;
     let fits = is_right(q.count, numbers[0]);
     Input { fits, numbers }

@@ -1,9 +1,5 @@
-use mathlib.Core.Path.{refl, sym, _∙_}
-use mathlib.Core.List.{[]}
-use native.Mathlib.Omega.{arith}
-use Rattle.arith.proofs.Lists.{false-true}
-use Rattle.parse.specs.Text.{allDigits, valueOf, wordsOf}
-use Rattle.parse.specs.Reading.{ahead}
+-- Nothing is done and no word is begun, so the text is all rest.
+use mathlib.Core.Path.{refl}
 use Rattle.parse.proofs.Readings.{begun}
 use Rattle.parse.proofs.begin.Statement.{statement}
 use Rattle.parse.proofs.begin.Tie as tie

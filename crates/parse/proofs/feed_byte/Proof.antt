@@ -1,7 +1,6 @@
+-- Each kind of byte has its law in Readings.antt.
 use borrow.Author.Needs.{needs}
-use mathlib.Core.Path.{_≡_, sym, _∙_}
-use mathlib.Core.Bool.{true, false}
-use Rattle.parse.specs.Text.{isParting, isDigit}
+use mathlib.Core.Path.{sym, _∙_}
 use Rattle.parse.proofs.Readings.{spoilt-stays, spoilt-by-byte}
 use Rattle.parse.proofs.feed_byte.Statement.{statement}
 use Rattle.parse.proofs.feed_byte.Tie as tie
@@ -12,11 +11,11 @@ returns c = spoilt-stays _ (c .before .args .b) (c .if1 .taken)
 is-parting-requires : tie.Need-is-parting-requires
 is-parting-requires c κs = search needs
 
-part-requires : tie.Need-part-requires
-part-requires c κs = search needs
+end-number-requires : tie.Need-end-number-requires
+end-number-requires c κs = search needs
 
 returns-2 : tie.Need-returns-2
-returns-2 c = c .part .ensures .reads _ (sym (c .before .before .is-parting .ensures) ∙ c .before .if2 .taken)
+returns-2 c = c .end-number .ensures .reads _ (sym (c .before .before .is-parting .ensures) ∙ c .before .if2 .taken)
 
 is-digit-requires : tie.Need-is-digit-requires
 is-digit-requires c κs = search needs
@@ -42,7 +41,7 @@ feed-byte-spec =
     (tie.spec
     returns
     is-parting-requires
-    part-requires
+    end-number-requires
     returns-2
     is-digit-requires
     lengthen-requires

@@ -1,3 +1,4 @@
+-- Where 19 can be taken away and the rest is a multiple of 16, the quotient is compared; 16 × first is never made.
 use mathlib.Core.Path.{_≡_, sym, _∙_}
 use mathlib.Core.Bool.{false}
 use Prim.Native.Nat.{ℕ, _+_, _-_, _*_, _/_, _%_, _≤_, _<_}
@@ -22,7 +23,7 @@ divided n first h even =
     ]
 
 returns : tie.Need-returns
-returns c = sym (too-few _ _ (c .if1 .taken))
+returns c = sym (too-few (c .before .args .count) (c .before .args .first) (omega arith))
 
 returns-2 : tie.Need-returns-2
 returns-2 c = sym (between _ _ (c .before .if1 .left) (c .if2 .taken))
