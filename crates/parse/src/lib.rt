@@ -100,7 +100,7 @@ fn lengthen(mut p: Parse, b: u8) -> Parse
     p
 }
 
-// Counts the number that is begun, and keeps it if there is a place.
+// Counts the number that is begun, and keeps it if there is a place. The count doesn't wrap in a text shorter than 2^64 bytes.
 fn close(p: Parse) -> Parse
     requires { ⌜ (p .within ≡ true) × (p .spoilt ≡ false) ⌝ }
     ensures { λ r. ⌜ Parted p r ⌝ }
