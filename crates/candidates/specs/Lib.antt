@@ -1,0 +1,2 @@
+-- What the contract of the candidates cites.
+pub mod Candidates
