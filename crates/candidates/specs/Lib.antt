@@ -1,2 +1,3 @@
--- What the contract of the candidates cites.
+-- What the contracts of this crate cite.
 pub mod Candidates
+pub mod Steps

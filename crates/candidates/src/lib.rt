@@ -22,6 +22,17 @@ pub fn collect_mul_probe0_candidates(
 ) -> CandidatesAnswer
     ensures { λ r. ⌜ Collected w pairs (now (listed .entry)) (now (slots .entry)) p t (now (list .entry)) (now (list .exit)) r ⌝ }
 {
-    // to be written
-    CandidatesAnswer::NotUsed
+    let refusal = inner::candidates_refusal(w, pairs, listed, slots, p, t, list);
+    if refusal != 0 {
+        return CandidatesAnswer::Refused(refusal);
+    }
+    if !solve::inner::is_used(p, t) {
+        return CandidatesAnswer::NotUsed;
+    }
+    let solve::inner::Solution::Class { bits, first } = solve::inner::solve(w, p, t) else {
+        return CandidatesAnswer::Used(0);
+    };
+    let class = filter::inner::Residue { w, bits, first };
+    let count = inner::collect(list, listed, slots, pairs, class);
+    CandidatesAnswer::Used(count as u32)
 }
