@@ -72,6 +72,7 @@ module _ (c : Residue) (n : ℕ) (rows order old : List ℕ) (fit : n ≤ length
     filling-end h =
         let front : keep test (take n order) ≡ take k new = f .front ∙ ap (λ (l : List ℕ). take k new ++ l) (keep-end test n order fit (s .at) h) ∙ append-nil (take k new) in
         record {
+          within = omega (arith, f .few, f .sweeping .within);
           count = sym (ap length front ∙ length-take-le k new (omega (arith, f .few, f .size, f .sweeping .within)));
           whole = sym (take-append-drop k new) ∙ ap₂ (λ (l m : List ℕ). l ++ m) (sym front) (f .rest);
         }
