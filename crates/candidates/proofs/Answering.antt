@@ -1,8 +1,8 @@
 -- Laws of the candidates' answer: what is known where nothing is refused, and what each answer says. Assumes nothing.
-use mathlib.Core.Path.{_≡_, refl, sym, ap, ap₂, _∙_, subst}
+use mathlib.Core.Path.{_≡_, refl, sym, ap, _∙_, subst}
 use mathlib.Core.Bool.{Bool, true, false, not, _||_, cond}
 use mathlib.Core.List.{List, [], _++_}
-use mathlib.Core.Option.{Option, none, some}
+use mathlib.Core.Option.{none, some}
 use Prim.Native.Nat.{ℕ, _/_, _^_, _≤_, _<_}
 use native.Mathlib.Omega.{arith}
 use borrow.Author.Tests.{ltb-false, leb-false}
@@ -17,7 +17,7 @@ use Rattle.order.proofs.OrderLaws.{order-exactly}
 use Rattle.solve.specs.Equation.{used, solves}
 use Rattle.solve.specs.declared.inner.Solution.{Solution}
 use Rattle.solve.specs.declared.inner.Solution.the-variants.{Class, Nothing}
-use Rattle.solve.specs.Solved.{Asked, IsClass, IsNone, Solved}
+use Rattle.solve.specs.Solved.{IsClass, IsNone, Solved}
 use Rattle.filter.specs.declared.inner.Residue.{Residue}
 use Rattle.filter.specs.Places.{Ordered}
 use Rattle.filter.specs.Refusals.{shortPairs, tooManyPairs, wrongOrder}

@@ -1,8 +1,7 @@
 // What the candidates are made of: the refusals and the listing.
 ghost use mathlib.Core.Path.{_≡_};
-ghost use mathlib.Core.List.{List, _++_};
-ghost use Prim.Native.Nat.{ℕ, _≤_};
-ghost use lib.ListN.{length, drop};
+ghost use Prim.Native.Nat.{_≤_};
+ghost use lib.ListN.{length};
 ghost use Rattle.filter.specs.Places.{Ordered};
 ghost use Rattle.filter.specs.Sweeps.{inClass, Small};
 ghost use Rattle.candidates.specs.Candidates.{candidatesRefusal};
