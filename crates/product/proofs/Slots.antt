@@ -2,12 +2,12 @@
 use mathlib.Core.Path.{_≡_, refl, sym, ap, ap₂, _∙_, subst}
 use mathlib.Core.Bool.{Bool, true, false}
 use mathlib.Core.List.{List, [], _∷_}
-use mathlib.Core.Option.{none, some}
-use Prim.Native.Nat.{ℕ, _+_, _*_, _%_, _^_, _≤_, _<_}
+use mathlib.Core.Option.{none}
+use Prim.Native.Nat.{ℕ, _+_, _*_, _%_, _^_, _<_}
 use native.Mathlib.Nat.{mod-lt, mod-eq-of-lt}
 use native.Mathlib.Omega.{arith}
 use borrow.Author.Tests.{eq-eqb}
-use lib.ListN.{length, getD, take, drop}
+use lib.ListN.{getD, take, drop}
 use lib.Pow.{pow-pos}
 use Rattle.arith.specs.Lists.{countUp, firstThat}
 use Rattle.arith.specs.Word.{modulus}
@@ -17,15 +17,17 @@ use Rattle.arith.proofs.Remainders.{modulus-is, mod-mul-mod}
 use Rattle.order.specs.Order.{firstWord, orderOf}
 use Rattle.order.proofs.OrderLaws.{order-exactly}
 use Rattle.solve.specs.Equation.{used, solves}
-use Rattle.solve.specs.Solved.{Asked, IsClass, IsNone}
+use Rattle.solve.specs.Solved.{Asked, Solved, IsClass, IsNone}
+use Rattle.solve.specs.declared.inner.Solution.{Solution}
+use Rattle.solve.specs.declared.inner.Solution.the-variants.{Class, Nothing}
 use Rattle.filter.specs.declared.inner.Residue.{Residue}
 use Rattle.filter.specs.declared.inner.Sweep.{Sweep}
-use Rattle.filter.specs.Places.{Ordered, Skips}
+use Rattle.filter.specs.Places.{Ordered}
 use Rattle.filter.specs.Sweeps.{inClass, Small, Settled}
 use Rattle.filter.proofs.PlaceLaws.{skips-none, skips-more, skips-join, skips-narrow, first-skips}
 use Rattle.product.specs.Trying.{slotsFor}
 use Rattle.product.specs.Steps.{fitsAt, Target, Narrows}
-use Rattle.product.proofs.Trials.{fits-lane, fits-not}
+use Rattle.product.proofs.Trials.{fits-lane}
 
 -- nothing passes
 none-pass : (test : ℕ → Bool) → ((s : ℕ) → test s ≡ false) → (l : List ℕ) → firstThat test l ≡ none
@@ -47,6 +49,13 @@ module _ (w : ℕ) (target xs ys : List ℕ) (a b : ℕ) (ok : Target w target) 
   first-not x y p ex ey e n =
       is-false (fitsAt w target xs a ys b)
       (λ f. n (e ∙ ap₂ (λ (x y : ℕ). (x * y) % modulus w) ex ey ∙ ap (λ (m : ℕ). (firstWord xs a * firstWord ys b) % m) (modulus-is w (ok .width)) ∙ first-product f))
+
+-- ---- what a solution says
+pub solved-class : (w p t : ℕ) (r : Solution) (bits first : ℕ) → r ≡ Class bits first → Solved w p t r → IsClass w p t bits first
+solved-class w p t r bits first e s = subst (Solved w p t) e s
+
+pub solved-none : (w p t : ℕ) (r : Solution) → r ≡ Nothing → Solved w p t r → IsNone w p t
+solved-none w p t r e s = subst (Solved w p t) e s
 
 -- ---- p is the first word of atom a, reduced
 module _ (w : ℕ) (target atoms listed : List ℕ) (a : ℕ) (ok : Target w target) (p : ℕ) (is : p ≡ firstWord atoms a % modulus w) where

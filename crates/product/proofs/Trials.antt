@@ -1,6 +1,6 @@
 -- Laws of one trial: two rows fit exactly if each product of their words is the target's word. Assumes nothing.
-use mathlib.Core.Path.{_≡_, refl, sym, ap, ap₂, _∙_}
-use mathlib.Core.Bool.{Bool, true, false}
+use mathlib.Core.Path.{_≡_, sym, ap, ap₂, _∙_}
+use mathlib.Core.Bool.{true, false}
 use mathlib.Core.List.{List, [], _∷_, map, zipWith}
 use Prim.Native.Nat.{ℕ, zero, suc, _+_, _*_, _%_, _^_, _≤_, _<_}
 use native.Mathlib.Nat.{mod-eq-of-lt}
@@ -13,10 +13,9 @@ use Rattle.arith.specs.Word.{modulus}
 use Rattle.arith.proofs.Lists.{is-false}
 use Rattle.arith.proofs.Parts.{length-part, getD-part}
 use Rattle.arith.proofs.Remainders.{modulus-is}
-use Rattle.simd.specs.Gates.{gateOf, gateRow, sameRow}
+use Rattle.simd.specs.Gates.{gateOf, gateRow}
 use Rattle.simd.specs.declared.Gate.the-variants.{Mul}
 use Rattle.simd.proofs.Rows.{length-gateRow, getD-gateRow, same-row-eq, same-row-of}
-use Rattle.order.specs.Order.{firstWord}
 use Rattle.product.specs.Trying.{fits}
 use Rattle.product.specs.Steps.{fitsAt, Target}
 
@@ -38,9 +37,9 @@ module _ (w : ℕ) (target xs ys : List ℕ) (a b : ℕ) (ok : Target w target) 
   wanted =
       let long = length-map target (λ (t : ℕ). t % 2 ^ w) in
       ext-getD 0 (map (λ (t : ℕ). t % 2 ^ w) target) target long λ k h.
-          ap (λ (d : ℕ). getD (map (λ (t : ℕ). t % 2 ^ w) target) k d) (sym (mod-eq-of-lt (pow-pos w)))
-          ∙ List·getD-map (λ (t : ℕ). t % 2 ^ w) target k 0
-          ∙ mod-eq-of-lt (ok .reduced k (omega (arith, ok .long, long)))
+      ap (λ (d : ℕ). getD (map (λ (t : ℕ). t % 2 ^ w) target) k d) (sym (mod-eq-of-lt (pow-pos w)))
+      ∙ List·getD-map (λ (t : ℕ). t % 2 ^ w) target k 0
+      ∙ mod-eq-of-lt (ok .reduced k (omega (arith, ok .long, long)))
 
   row : List ℕ
   row = gateRow Mul w (partAt 16 xs a) (partAt 16 ys b)
@@ -77,7 +76,7 @@ module _ (w : ℕ) (target xs ys : List ℕ) (a b : ℕ) (ok : Target w target) 
       let lb = length-part 16 ys b hb in
       let long = length-gateRow Mul w (partAt 16 xs a) (partAt 16 ys b) (la ∙ sym lb) in
       let same : row ≡ target =
-          ext-getD 0 row target (long ∙ la ∙ sym (ok .long)) (λ k h.
-          let small : k < 16 = omega (arith, long, la) in
-          row-word k small (omega (arith, la)) (omega (arith, lb)) ∙ each k small) in
+      ext-getD 0 row target (long ∙ la ∙ sym (ok .long)) (λ k h.
+      let small : k < 16 = omega (arith, long, la) in
+      row-word k small (omega (arith, la)) (omega (arith, lb)) ∙ each k small) in
       same-row-of (same ∙ sym wanted)

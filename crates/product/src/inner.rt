@@ -170,9 +170,7 @@ fn first_pair(
         match solution {
             Solution::Class { bits, first } => {
                 let class = Residue { w, bits, first };
-                return first_of_class(
-                    atoms, a, listed, slots, n, samples, m, class, target, w,
-                );
+                return first_of_class(atoms, a, listed, slots, n, samples, m, class, target, w);
             }
             Solution::Nothing => {
                 return PairFit::Nothing;

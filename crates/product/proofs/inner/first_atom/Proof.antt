@@ -1,9 +1,9 @@
 -- `product::inner::first_atom` meets its contract: from atom b on the first that fits is the first of all. Where the first products differ none fits.
 -- Assumes nothing.
-use mathlib.Core.Path.{_≡_, sym, ap, _∙_}
-use mathlib.Core.Bool.{true, false}
+use mathlib.Core.Path.{_≡_, sym, _∙_}
+use mathlib.Core.Bool.{false}
 use mathlib.Core.Logic.{inl, inr}
-use Prim.Native.Nat.{ℕ, _-_, _≤_}
+use Prim.Native.Nat.{_-_, _≤_}
 use Rattle.arith.specs.Lists.{countUp, firstThat}
 use Rattle.product.specs.Steps.{fitsAt}
 use Rattle.product.proofs.Slots.{first-not}
@@ -24,12 +24,12 @@ mul-p c = search needs
 
 shared-slice-read-p : tie.Need-shared-slice-read-p Inv-loop μ-loop
 shared-slice-read-p c =
-    let s = c .before .before .before in
+    let s = c .before .before .before .before in
     omega (arith, s .pre .0 .fit)
 
 shared-slice-read-t : tie.Need-shared-slice-read-t Inv-loop μ-loop
 shared-slice-read-t c =
-    let s = c .before .before .before .before in
+    let s = c .before .before .before .before .before in
     omega (arith, s .pre .4 .long)
 
 loop-holds : tie.Need-loop-holds Inv-loop μ-loop

@@ -1,8 +1,6 @@
 -- `product::inner::first_by_slot` meets its contract: from slot s on the first that fits is the first of all. Assumes nothing.
-use mathlib.Core.Path.{_≡_, sym, ap, _∙_}
-use mathlib.Core.Bool.{true, false}
-use mathlib.Core.Logic.{inl, inr}
-use Prim.Native.Nat.{ℕ, _-_, _≤_}
+use mathlib.Core.Path.{_≡_, sym, _∙_}
+use Prim.Native.Nat.{_-_, _≤_}
 use Rattle.arith.specs.Lists.{countUp, firstThat}
 use Rattle.product.specs.Steps.{fitsAt}
 use Rattle.product.proofs.Turns.{up-start, up-hit, up-miss, up-end}

@@ -1,10 +1,9 @@
 -- `product::inner::first_of_class` meets its contract: from the sweep's place on the first that fits is the first of all. Assumes nothing.
-use mathlib.Core.Path.{_≡_, sym, ap, _∙_}
-use mathlib.Core.Bool.{true, false}
-use Prim.Native.Nat.{ℕ, _-_, _≤_}
+use mathlib.Core.Path.{_≡_, sym, _∙_}
+use Prim.Native.Nat.{_-_}
 use Rattle.arith.specs.Lists.{firstThat}
 use Rattle.product.specs.Steps.{fitsAt}
-use lib.ListN.{take, drop, getD}
+use lib.ListN.{take, drop}
 use Rattle.filter.specs.Sweeps.{Sweeping}
 use Rattle.filter.proofs.PlaceLaws.{first-at, first-end}
 use Rattle.filter.proofs.Words.{slot-below}
@@ -40,10 +39,14 @@ shared-slice-read-slot : tie.Need-shared-slice-read-slot Inv-loop μ-loop
 shared-slice-read-slot c = search needs
 
 cast-fits : tie.Need-cast-fits Inv-loop μ-loop
-cast-fits c = search needs
+cast-fits c = omega (arith, c .shared-slice-known6 .given (c .before .before .before .loop .place .at))
 
 fits-requires : tie.Need-fits-requires Inv-loop μ-loop
-fits-requires c κs = search needs
+fits-requires c κs =
+    let s = c .before .before .before .before .before .before .before .before .before .before in
+    let a = s .args in
+    let l = c .before .before .before .loop in
+    (s .pre .4, omega (arith, slot-below (a .n) (a .listed .now) (a .slots .now) (s .pre .0) (l .place .at) (c .before .if1 .taken), s .pre .0 .rows-fit), s .pre .5)
 
 returns : tie.Need-returns Inv-loop μ-loop
 returns c =

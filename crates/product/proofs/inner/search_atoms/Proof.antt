@@ -1,55 +1,72 @@
+-- `product::inner::search_atoms` meets its contract: from atom a on the first trial that fits is the first of all. Assumes nothing.
+use mathlib.Core.Path.{_≡_, sym, ap, _∙_}
+use mathlib.Core.List.{List}
+use Prim.Native.Nat.{ℕ, _-_, _≤_}
+use Rattle.arith.specs.Lists.{countUp, firstThat}
+use Rattle.product.specs.Trying.{Product, fitting, withAtoms}
+use Rattle.product.specs.Steps.{fitsAt, atomSays}
+use Rattle.product.proofs.Turns.{atomTrials, turn-hit, turn-miss, turn-end, atoms-same, atoms-start}
 use borrow.Author.Needs.{needs}
 use native.Mathlib.Omega.{arith}
 use Rattle.product.proofs.inner.search_atoms.Statement.{statement}
 use Rattle.product.proofs.inner.search_atoms.Tie as tie
-use Rattle.product.proofs.inner.search_atoms.Reads as reads
-use Rattle.product.proofs.inner.search_atoms.Lts as lts
-use Rattle.product.proofs.inner.first_atom.Reads as first-atom-reads
 
 abbrev Inv-loop : tie.InvT-loop
-Inv-loop firsts atoms count target w a₀ a = ?
+Inv-loop firsts atoms count target w a₀ a =
+    (a ≤ count)
+    × ((listed : List ℕ) → firstThat (fitting w atoms listed target) (atomTrials w count atoms 0 listed target a) ≡ firstThat (fitting w atoms listed target) (withAtoms count))
 
 abbrev μ-loop : tie.MeasureT-loop
-μ-loop firsts atoms count target w a₀ a = ?
+μ-loop firsts atoms count target w a₀ a = count - a
 
--- src/inner.rt:191:5
 loop-holds : tie.Need-loop-holds Inv-loop μ-loop
-loop-holds c = search needs
+loop-holds c =
+    let a = c .before .before .before .args in
+    (omega arith, λ listed. atoms-start (a .w) (a .count) (a .atoms .now) 0 listed (a .target .now) (fitting (a .w) (a .atoms .now) listed (a .target .now)))
 
--- src/inner.rt:192:13
 first-atom-requires : tie.Need-first-atom-requires Inv-loop μ-loop
-first-atom-requires c κs = search needs
+first-atom-requires c κs =
+    let s = c .before .before .before .before .before in
+    (s .pre .0, omega arith, s .pre .1, s .pre .2, s .pre .3)
 
--- src/inner.rt:193:20
 cast-slot : tie.Need-cast-slot Inv-loop μ-loop
 cast-slot c = search needs
 
--- src/inner.rt:194:9
 add-a : tie.Need-add-a Inv-loop μ-loop
 add-a c = search needs
 
--- src/inner.rt:196:25
 enum-known-fit : tie.Need-enum-known-fit Inv-loop μ-loop
 enum-known-fit c = search needs
 
--- src/inner.rt:197:17
 returns : tie.Need-returns Inv-loop μ-loop
-returns c = search needs
+returns c listed =
+    let f = c .before .before .before in
+    let l = f .before .before .loop in
+    let a = f .before .before .before .before .before .before .args in
+    sym (turn-hit (fitting (a .w) (a .atoms .now) listed (a .target .now)) Product.ofAtoms (λ (k : ℕ). countUp 0 (a .count)) (λ (k : ℕ). fitsAt (a .w) (a .target .now) (a .atoms .now) k (a .atoms .now)) (atoms-same (a .w) (a .count) (a .atoms .now) 0 listed (a .target .now)) (a .count) (l .a) (omega arith) _ (ap atomSays (sym (c .before .fit .given .1)) ∙ f .first-atom .ensures))
+    ∙ l .inv .1 listed
 
 enum-told : tie.Need-enum-told Inv-loop μ-loop
 enum-told c = search needs
 
--- src/inner.rt:191:5
 loop-less : tie.Need-loop-less Inv-loop μ-loop
 loop-less c = search needs
 
--- src/inner.rt:191:5
 loop-again : tie.Need-loop-again Inv-loop μ-loop
-loop-again c = search needs
+loop-again c =
+    let f = c .before .before in
+    let l = f .before .before .loop in
+    let a = f .before .before .before .before .before .before .args in (
+      omega arith,
+      λ listed. turn-miss (fitting (a .w) (a .atoms .now) listed (a .target .now)) Product.ofAtoms (λ (k : ℕ). countUp 0 (a .count)) (λ (k : ℕ). fitsAt (a .w) (a .target .now) (a .atoms .now) k (a .atoms .now)) (atoms-same (a .w) (a .count) (a .atoms .now) 0 listed (a .target .now)) (a .count) (l .a) (omega arith) (ap atomSays (sym (c .enum-told .given .1)) ∙ f .first-atom .ensures)
+          ∙ l .inv .1 listed,
+    )
 
--- src/inner.rt:186:1
 returns-2 : tie.Need-returns-2 Inv-loop μ-loop
-returns-2 c = search needs
+returns-2 c listed =
+    let l = c .before .loop in
+    let a = c .before .before .before .before .before .args in
+    sym (turn-end (fitting (a .w) (a .atoms .now) listed (a .target .now)) Product.ofAtoms (λ (k : ℕ). countUp 0 (a .count)) (λ (k : ℕ). fitsAt (a .w) (a .target .now) (a .atoms .now) k (a .atoms .now)) (atoms-same (a .w) (a .count) (a .atoms .now) 0 listed (a .target .now)) (a .count) (l .a) (omega arith)) ∙ l .inv .1 listed
 
 pub search-atoms-spec : {M : Type 1} → statement M
 search-atoms-spec =

@@ -1,55 +1,72 @@
+-- `product::inner::search_pairs` meets its contract: from atom a on the first trial that fits is the first of all. Assumes nothing.
+use mathlib.Core.Path.{_≡_, sym, ap, _∙_}
+use Prim.Native.Nat.{ℕ, _-_, _≤_}
+use Rattle.arith.specs.Lists.{firstThat}
+use Rattle.product.specs.Trying.{Product, fitting, withPairs}
+use Rattle.product.specs.Steps.{fitsAt, pairSays}
+use Rattle.product.proofs.Turns.{pairTrials, pairSlots, turn-hit, turn-miss, turn-end, pairs-same, pairs-start}
 use borrow.Author.Needs.{needs}
 use native.Mathlib.Omega.{arith}
 use Rattle.product.proofs.inner.search_pairs.Statement.{statement}
 use Rattle.product.proofs.inner.search_pairs.Tie as tie
-use Rattle.product.proofs.inner.search_pairs.Reads as reads
-use Rattle.product.proofs.inner.search_pairs.Lts as lts
-use Rattle.product.proofs.inner.first_pair.Reads as first-pair-reads
 
 abbrev Inv-loop : tie.InvT-loop
-Inv-loop atoms count listed slots n samples m target w a₀ a = ?
+Inv-loop atoms count listed slots n samples m target w a₀ a =
+    (a ≤ count)
+    × (firstThat (fitting w atoms listed target) (pairTrials w count atoms n listed target a) ≡ firstThat (fitting w atoms listed target) (withPairs w count atoms n listed target))
 
 abbrev μ-loop : tie.MeasureT-loop
-μ-loop atoms count listed slots n samples m target w a₀ a = ?
+μ-loop atoms count listed slots n samples m target w a₀ a = count - a
 
--- src/inner.rt:221:5
 loop-holds : tie.Need-loop-holds Inv-loop μ-loop
-loop-holds c = search needs
+loop-holds c =
+    let a = c .before .before .before .before .before .args in
+    (omega arith, pairs-start (a .w) (a .count) (a .atoms .now) (a .n) (a .listed .now) (a .target .now) (fitting (a .w) (a .atoms .now) (a .listed .now) (a .target .now)))
 
--- src/inner.rt:222:13
 first-pair-requires : tie.Need-first-pair-requires Inv-loop μ-loop
-first-pair-requires c κs = search needs
+first-pair-requires c κs =
+    let s = c .before .before .before .before .before .before .before in
+    let lent = s .pre .0 in
+    (lent .ordered, s .pre .1, omega (arith, lent .atoms-fit), record { width = lent .width; long = lent .long; reduced = lent .reduced })
 
--- src/inner.rt:223:20
 cast-slot : tie.Need-cast-slot Inv-loop μ-loop
-cast-slot c = search needs
+cast-slot c = omega (arith, c .before .before .before .before .before .before .before .before .pre .0 .few)
 
--- src/inner.rt:224:9
 add-a : tie.Need-add-a Inv-loop μ-loop
 add-a c = search needs
 
--- src/inner.rt:226:25
 enum-known-fit : tie.Need-enum-known-fit Inv-loop μ-loop
 enum-known-fit c = search needs
 
--- src/inner.rt:227:17
 returns : tie.Need-returns Inv-loop μ-loop
-returns c = search needs
+returns c =
+    let f = c .before .before .before in
+    let l = f .before .before .loop in
+    let a = f .before .before .before .before .before .before .before .before .args in
+    sym (turn-hit (fitting (a .w) (a .atoms .now) (a .listed .now) (a .target .now)) Product.ofPair (pairSlots (a .w) (a .count) (a .atoms .now) (a .n) (a .listed .now) (a .target .now)) (λ (k : ℕ). fitsAt (a .w) (a .target .now) (a .atoms .now) k (a .listed .now)) (pairs-same (a .w) (a .count) (a .atoms .now) (a .n) (a .listed .now) (a .target .now)) (a .count) (l .a) (f .before .loop-test .taken) _ (ap pairSays (sym (c .before .fit .given .1)) ∙ f .first-pair .ensures))
+    ∙ l .inv .1
 
 enum-told : tie.Need-enum-told Inv-loop μ-loop
 enum-told c = search needs
 
--- src/inner.rt:221:5
 loop-less : tie.Need-loop-less Inv-loop μ-loop
 loop-less c = search needs
 
--- src/inner.rt:221:5
 loop-again : tie.Need-loop-again Inv-loop μ-loop
-loop-again c = search needs
+loop-again c =
+    let f = c .before .before in
+    let l = f .before .before .loop in
+    let a = f .before .before .before .before .before .before .before .before .args in (
+      omega (arith, f .before .loop-test .taken),
+      turn-miss (fitting (a .w) (a .atoms .now) (a .listed .now) (a .target .now)) Product.ofPair (pairSlots (a .w) (a .count) (a .atoms .now) (a .n) (a .listed .now) (a .target .now)) (λ (k : ℕ). fitsAt (a .w) (a .target .now) (a .atoms .now) k (a .listed .now)) (pairs-same (a .w) (a .count) (a .atoms .now) (a .n) (a .listed .now) (a .target .now)) (a .count) (l .a) (f .before .loop-test .taken) (ap pairSays (sym (c .enum-told .given .1)) ∙ f .first-pair .ensures)
+          ∙ l .inv .1,
+    )
 
--- src/inner.rt:206:1
 returns-2 : tie.Need-returns-2 Inv-loop μ-loop
-returns-2 c = search needs
+returns-2 c =
+    let l = c .before .loop in
+    let a = c .before .before .before .before .before .before .before .args in
+    sym (turn-end (fitting (a .w) (a .atoms .now) (a .listed .now) (a .target .now)) Product.ofPair (pairSlots (a .w) (a .count) (a .atoms .now) (a .n) (a .listed .now) (a .target .now)) (λ (k : ℕ). fitsAt (a .w) (a .target .now) (a .atoms .now) k (a .listed .now)) (pairs-same (a .w) (a .count) (a .atoms .now) (a .n) (a .listed .now) (a .target .now)) (a .count) (l .a) (c .loop-test .left)) ∙ l .inv .1
 
 pub search-pairs-spec : {M : Type 1} → statement M
 search-pairs-spec =

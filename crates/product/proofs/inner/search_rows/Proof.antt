@@ -1,43 +1,45 @@
-use native.Mathlib.Omega.{arith}
+-- `product::inner::search_rows` meets its contract: the second stage counts where the first has none. Assumes nothing.
+use mathlib.Core.Path.{sym, ap, _∙_}
+use Rattle.product.specs.Stages.{foundSays}
+use Rattle.product.proofs.Turns.{in-first, in-second}
 use borrow.Author.Needs.{needs}
 use Rattle.product.proofs.inner.search_rows.Statement.{statement}
 use Rattle.product.proofs.inner.search_rows.Tie as tie
-use Rattle.product.proofs.inner.search_rows.Reads as reads
-use Rattle.product.proofs.inner.search_rows.Lts as lts
-use Rattle.product.proofs.inner.atom_and_pair.Reads as atom-and-pair-reads
-use Rattle.product.proofs.inner.two_atoms.Reads as two-atoms-reads
 
--- src/inner.rt:296:9
 two-atoms-requires : tie.Need-two-atoms-requires
-two-atoms-requires c κs = search needs
+two-atoms-requires c κs =
+    let lent = c .before .before .before .before .pre in
+    (lent .few, lent .atoms-fit, record { width = lent .width; long = lent .long; reduced = lent .reduced })
 
--- src/inner.rt:298:27
 enum-told : tie.Need-enum-told
 enum-told c = search needs
 
--- src/inner.rt:298:27
 atom-and-pair-requires : tie.Need-atom-and-pair-requires
 atom-and-pair-requires c κs = search needs
 
--- src/inner.rt:299:22
 enum-known-found : tie.Need-enum-known-found
 enum-known-found c = search needs
 
--- src/inner.rt:300:25
 enum-known-found-2 : tie.Need-enum-known-found-2
 enum-known-found-2 c = search needs
 
--- src/inner.rt:284:1
 returns : tie.Need-returns
-returns c = search needs
+returns c =
+    let f = c .before .before .before in
+    let a = f .before .before .before .before .before .args in
+    in-second (a .w) (a .count) (a .atoms .now) (a .n) (a .listed .now) (a .target .now) (foundSays (c .atom-and-pair .result)) (ap foundSays (sym (c .before .enum-told .given .1)) ∙ f .two-atoms .ensures (a .listed .now)) (c .atom-and-pair .ensures)
 
--- src/inner.rt:284:1
 returns-2 : tie.Need-returns-2
-returns-2 c = search needs
+returns-2 c =
+    let f = c .before .before .before in
+    let a = f .before .before .before .before .before .args in
+    in-first (a .w) (a .count) (a .atoms .now) (a .n) (a .listed .now) (a .target .now) _ (ap foundSays (sym (c .before .found .given .1)) ∙ f .two-atoms .ensures (a .listed .now))
 
--- src/inner.rt:284:1
 returns-3 : tie.Need-returns-3
-returns-3 c = search needs
+returns-3 c =
+    let f = c .before .before .before in
+    let a = f .before .before .before .before .before .args in
+    in-first (a .w) (a .count) (a .atoms .now) (a .n) (a .listed .now) (a .target .now) _ (ap foundSays (sym (c .before .found2 .given .1)) ∙ f .two-atoms .ensures (a .listed .now))
 
 pub search-rows-spec : {M : Type 1} → statement M
 search-rows-spec =
