@@ -87,47 +87,66 @@ module _ (test : Product → Bool) (g : ℕ → ℕ → Product) (l : ℕ → Li
   unfolding flatMap firstThat
   turn-end h = ap (λ (q : List ℕ). firstThat test (flatMap (λ (k : ℕ). map (g k) (l k)) q)) (count-end a n h)
 
--- ---- the two stages
-module _ (w count : ℕ) (atoms : List ℕ) (n : ℕ) (listed target : List ℕ) where
-  -- every atom with every atom
-  abbrev pub atomTrials : ℕ → List Product
-  atomTrials a = trials Product.ofAtoms (λ (k : ℕ). countUp 0 count) a count
+-- ---- the first stage: every atom from a on with every atom
+abbrev pub atomTrials : ℕ → ℕ → List Product
+atomTrials count a = trials Product.ofAtoms (λ (k : ℕ). countUp 0 count) a count
 
-  -- every atom with every pair
+module _ (w count : ℕ) (atoms listed target : List ℕ) where
+  abbrev test : Product → Bool
+  test = fitting w atoms listed target
+
+  atoms-same : (a s : ℕ) → test (Product.ofAtoms a s) ≡ fitsAt w target atoms a atoms s
+  unfolding fitting
+  atoms-same a s = refl
+
+  pub atoms-start : firstThat test (atomTrials count 0) ≡ firstThat test (withAtoms count)
+  unfolding withAtoms
+  atoms-start = ap (λ (q : List ℕ). firstThat test (flatMap (λ (k : ℕ). map (Product.ofAtoms k) (countUp 0 count)) q)) (count-start count)
+
+  pub atoms-hit : (a : ℕ) → a < count → (s : ℕ) → some s ≡ firstThat (fitsAt w target atoms a atoms) (countUp 0 count) → firstThat test (atomTrials count a) ≡ some (Product.ofAtoms a s)
+  atoms-hit a = turn-hit test Product.ofAtoms (λ (k : ℕ). countUp 0 count) (λ (k : ℕ). fitsAt w target atoms k atoms) atoms-same count a
+
+  pub atoms-miss : (a : ℕ) → a < count → none ≡ firstThat (fitsAt w target atoms a atoms) (countUp 0 count) → firstThat test (atomTrials count (a + 1)) ≡ firstThat test (atomTrials count a)
+  atoms-miss a = turn-miss test Product.ofAtoms (λ (k : ℕ). countUp 0 count) (λ (k : ℕ). fitsAt w target atoms k atoms) atoms-same count a
+
+  pub atoms-end : (a : ℕ) → count ≤ a → firstThat test (atomTrials count a) ≡ none
+  atoms-end a = turn-end test Product.ofAtoms (λ (k : ℕ). countUp 0 count) (λ (k : ℕ). fitsAt w target atoms k atoms) atoms-same count a
+
+-- ---- the second stage, and both
+module _ (w count : ℕ) (atoms : List ℕ) (n : ℕ) (listed target : List ℕ) where
+  -- every atom from a on with every pair
   abbrev pub pairSlots : ℕ → List ℕ
   pairSlots a = slotsFor w (firstWord atoms a) (getD target 0 0) n listed
 
   abbrev pub pairTrials : ℕ → List Product
   pairTrials a = trials Product.ofPair pairSlots a count
 
-  pub atoms-same : (a s : ℕ) → fitting w atoms listed target (Product.ofAtoms a s) ≡ fitsAt w target atoms a atoms s
-  unfolding fitting
-  atoms-same a s = refl
-
-  pub pairs-same : (a s : ℕ) → fitting w atoms listed target (Product.ofPair a s) ≡ fitsAt w target atoms a listed s
+  pairs-same : (a s : ℕ) → fitting w atoms listed target (Product.ofPair a s) ≡ fitsAt w target atoms a listed s
   unfolding fitting
   pairs-same a s = refl
 
-  pub atoms-start : (test : Product → Bool) → firstThat test (atomTrials 0) ≡ firstThat test (withAtoms count)
-  unfolding withAtoms
-  atoms-start test = ap (λ (q : List ℕ). firstThat test (flatMap (λ (k : ℕ). map (Product.ofAtoms k) (countUp 0 count)) q)) (count-start count)
-
-  pub pairs-start : (test : Product → Bool) → firstThat test (pairTrials 0) ≡ firstThat test (withPairs w count atoms n listed target)
+  pub pairs-start : firstThat (fitting w atoms listed target) (pairTrials 0) ≡ firstThat (fitting w atoms listed target) (withPairs w count atoms n listed target)
   unfolding withPairs
-  pairs-start test = ap (λ (q : List ℕ). firstThat test (flatMap (λ (k : ℕ). map (Product.ofPair k) (pairSlots k)) q)) (count-start count)
+  pairs-start = ap (λ (q : List ℕ). firstThat (fitting w atoms listed target) (flatMap (λ (k : ℕ). map (Product.ofPair k) (pairSlots k)) q)) (count-start count)
+
+  pub pairs-hit : (a : ℕ) → a < count → (s : ℕ) → some s ≡ firstThat (fitsAt w target atoms a listed) (pairSlots a) → firstThat (fitting w atoms listed target) (pairTrials a) ≡ some (Product.ofPair a s)
+  pairs-hit a = turn-hit (fitting w atoms listed target) Product.ofPair pairSlots (λ (k : ℕ). fitsAt w target atoms k listed) pairs-same count a
+
+  pub pairs-miss : (a : ℕ) → a < count → none ≡ firstThat (fitsAt w target atoms a listed) (pairSlots a) → firstThat (fitting w atoms listed target) (pairTrials (a + 1)) ≡ firstThat (fitting w atoms listed target) (pairTrials a)
+  pairs-miss a = turn-miss (fitting w atoms listed target) Product.ofPair pairSlots (λ (k : ℕ). fitsAt w target atoms k listed) pairs-same count a
+
+  pub pairs-end : (a : ℕ) → count ≤ a → firstThat (fitting w atoms listed target) (pairTrials a) ≡ none
+  pairs-end a = turn-end (fitting w atoms listed target) Product.ofPair pairSlots (λ (k : ℕ). fitsAt w target atoms k listed) pairs-same count a
 
   -- the second stage counts where the first has none
   pub in-first : (p : Product) → some p ≡ firstThat (fitting w atoms listed target) (withAtoms count) → some p ≡ tryEverything w count atoms n listed target
   unfolding tryEverything orElse
   in-first p e =
-      let test = fitting w atoms listed target in
       let pairs = withPairs w count atoms n listed target in
-      sym (first-append test (withAtoms count) pairs ∙ ap (λ (o : Option Product). orElse o (firstThat test pairs)) (sym e))
+      sym (first-append (fitting w atoms listed target) (withAtoms count) pairs ∙ ap (λ (o : Option Product). orElse o (firstThat (fitting w atoms listed target) pairs)) (sym e))
 
-  pub in-second : (o : Option Product) → none ≡ firstThat (fitting w atoms listed target) (withAtoms count)
-      → o ≡ firstThat (fitting w atoms listed target) (withPairs w count atoms n listed target) → o ≡ tryEverything w count atoms n listed target
+  pub in-second : (o : Option Product) → none ≡ firstThat (fitting w atoms listed target) (withAtoms count) → o ≡ firstThat (fitting w atoms listed target) (withPairs w count atoms n listed target) → o ≡ tryEverything w count atoms n listed target
   unfolding tryEverything orElse
   in-second o e f =
-      let test = fitting w atoms listed target in
       let pairs = withPairs w count atoms n listed target in
-      f ∙ sym (first-append test (withAtoms count) pairs ∙ ap (λ (q : Option Product). orElse q (firstThat test pairs)) (sym e))
+      f ∙ sym (first-append (fitting w atoms listed target) (withAtoms count) pairs ∙ ap (λ (q : Option Product). orElse q (firstThat (fitting w atoms listed target) pairs)) (sym e))

@@ -90,7 +90,8 @@ fn first_atom(
     while b < count {
         if arith::mod_mul(p, firsts[b], w) == t {
             if fits(atoms, a, atoms, b, target, w) {
-                return AtomFit::At(AtomSlot(b as u32));
+                let slot = b as u32;
+                return AtomFit::At(AtomSlot(slot));
             }
         }
         b += 1;
@@ -141,7 +142,8 @@ fn first_by_slot(
     let mut s: usize = 0;
     while s < n {
         if fits(atoms, a, listed, s, target, w) {
-            return PairFit::At(PairSlot(s as u32));
+            let slot = s as u32;
+            return PairFit::At(PairSlot(slot));
         }
         s += 1;
     }

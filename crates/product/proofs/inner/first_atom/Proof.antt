@@ -51,8 +51,8 @@ fits-requires c κs =
     let s = c .before .before .before .before .before .before .before .before .before .before in
     (omega arith, omega arith, s .pre .4)
 
-cast-t20 : tie.Need-cast-t20 Inv-loop μ-loop
-cast-t20 c = search needs
+cast-slot : tie.Need-cast-slot Inv-loop μ-loop
+cast-slot c = search needs
 
 returns : tie.Need-returns Inv-loop μ-loop
 returns c =
@@ -102,7 +102,7 @@ first-atom-spec =
     shared-slice-read-mod-mul
     mod-mul-requires
     fits-requires
-    cast-t20
+    cast-slot
     returns
     add-b
     loop-less

@@ -25,8 +25,8 @@ fits-requires c κs =
     let s = c .before .before .before .before .before in
     (s .pre .0, omega arith, s .pre .3)
 
-cast-t10 : tie.Need-cast-t10 Inv-loop μ-loop
-cast-t10 c = search needs
+cast-slot : tie.Need-cast-slot Inv-loop μ-loop
+cast-slot c = search needs
 
 returns : tie.Need-returns Inv-loop μ-loop
 returns c =
@@ -63,7 +63,7 @@ first-by-slot-spec =
     μ-loop
     loop-holds
     fits-requires
-    cast-t10
+    cast-slot
     returns
     add-s
     loop-less

@@ -2,10 +2,10 @@
 use mathlib.Core.Path.{_≡_, sym, ap, _∙_}
 use mathlib.Core.List.{List}
 use Prim.Native.Nat.{ℕ, _-_, _≤_}
-use Rattle.arith.specs.Lists.{countUp, firstThat}
-use Rattle.product.specs.Trying.{Product, fitting, withAtoms}
-use Rattle.product.specs.Steps.{fitsAt, atomSays}
-use Rattle.product.proofs.Turns.{atomTrials, turn-hit, turn-miss, turn-end, atoms-same, atoms-start}
+use Rattle.arith.specs.Lists.{firstThat}
+use Rattle.product.specs.Trying.{fitting, withAtoms}
+use Rattle.product.specs.Steps.{atomSays}
+use Rattle.product.proofs.Turns.{atomTrials, atoms-start, atoms-hit, atoms-miss, atoms-end}
 use borrow.Author.Needs.{needs}
 use native.Mathlib.Omega.{arith}
 use Rattle.product.proofs.inner.search_atoms.Statement.{statement}
@@ -14,7 +14,7 @@ use Rattle.product.proofs.inner.search_atoms.Tie as tie
 abbrev Inv-loop : tie.InvT-loop
 Inv-loop firsts atoms count target w a₀ a =
     (a ≤ count)
-    × ((listed : List ℕ) → firstThat (fitting w atoms listed target) (atomTrials w count atoms 0 listed target a) ≡ firstThat (fitting w atoms listed target) (withAtoms count))
+    × ((listed : List ℕ) → firstThat (fitting w atoms listed target) (atomTrials count a) ≡ firstThat (fitting w atoms listed target) (withAtoms count))
 
 abbrev μ-loop : tie.MeasureT-loop
 μ-loop firsts atoms count target w a₀ a = count - a
@@ -22,7 +22,7 @@ abbrev μ-loop : tie.MeasureT-loop
 loop-holds : tie.Need-loop-holds Inv-loop μ-loop
 loop-holds c =
     let a = c .before .before .before .args in
-    (omega arith, λ listed. atoms-start (a .w) (a .count) (a .atoms .now) 0 listed (a .target .now) (fitting (a .w) (a .atoms .now) listed (a .target .now)))
+    (omega arith, λ listed. atoms-start (a .w) (a .count) (a .atoms .now) listed (a .target .now))
 
 first-atom-requires : tie.Need-first-atom-requires Inv-loop μ-loop
 first-atom-requires c κs =
@@ -43,7 +43,7 @@ returns c listed =
     let f = c .before .before .before in
     let l = f .before .before .loop in
     let a = f .before .before .before .before .before .before .args in
-    sym (turn-hit (fitting (a .w) (a .atoms .now) listed (a .target .now)) Product.ofAtoms (λ (k : ℕ). countUp 0 (a .count)) (λ (k : ℕ). fitsAt (a .w) (a .target .now) (a .atoms .now) k (a .atoms .now)) (atoms-same (a .w) (a .count) (a .atoms .now) 0 listed (a .target .now)) (a .count) (l .a) (omega arith) _ (ap atomSays (sym (c .before .fit .given .1)) ∙ f .first-atom .ensures))
+    sym (atoms-hit (a .w) (a .count) (a .atoms .now) listed (a .target .now) (l .a) (omega arith) _ (ap atomSays (sym (c .before .fit .given .1)) ∙ f .first-atom .ensures))
     ∙ l .inv .1 listed
 
 enum-told : tie.Need-enum-told Inv-loop μ-loop
@@ -58,7 +58,7 @@ loop-again c =
     let l = f .before .before .loop in
     let a = f .before .before .before .before .before .before .args in (
       omega arith,
-      λ listed. turn-miss (fitting (a .w) (a .atoms .now) listed (a .target .now)) Product.ofAtoms (λ (k : ℕ). countUp 0 (a .count)) (λ (k : ℕ). fitsAt (a .w) (a .target .now) (a .atoms .now) k (a .atoms .now)) (atoms-same (a .w) (a .count) (a .atoms .now) 0 listed (a .target .now)) (a .count) (l .a) (omega arith) (ap atomSays (sym (c .enum-told .given .1)) ∙ f .first-atom .ensures)
+      λ listed. atoms-miss (a .w) (a .count) (a .atoms .now) listed (a .target .now) (l .a) (omega arith) (ap atomSays (sym (c .enum-told .given .1)) ∙ f .first-atom .ensures)
           ∙ l .inv .1 listed,
     )
 
@@ -66,7 +66,7 @@ returns-2 : tie.Need-returns-2 Inv-loop μ-loop
 returns-2 c listed =
     let l = c .before .loop in
     let a = c .before .before .before .before .before .args in
-    sym (turn-end (fitting (a .w) (a .atoms .now) listed (a .target .now)) Product.ofAtoms (λ (k : ℕ). countUp 0 (a .count)) (λ (k : ℕ). fitsAt (a .w) (a .target .now) (a .atoms .now) k (a .atoms .now)) (atoms-same (a .w) (a .count) (a .atoms .now) 0 listed (a .target .now)) (a .count) (l .a) (omega arith)) ∙ l .inv .1 listed
+    sym (atoms-end (a .w) (a .count) (a .atoms .now) listed (a .target .now) (l .a) (omega arith)) ∙ l .inv .1 listed
 
 pub search-atoms-spec : {M : Type 1} → statement M
 search-atoms-spec =

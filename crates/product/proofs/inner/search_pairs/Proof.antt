@@ -1,10 +1,10 @@
 -- `product::inner::search_pairs` meets its contract: from atom a on the first trial that fits is the first of all. Assumes nothing.
 use mathlib.Core.Path.{_≡_, sym, ap, _∙_}
-use Prim.Native.Nat.{ℕ, _-_, _≤_}
+use Prim.Native.Nat.{_-_, _≤_}
 use Rattle.arith.specs.Lists.{firstThat}
-use Rattle.product.specs.Trying.{Product, fitting, withPairs}
-use Rattle.product.specs.Steps.{fitsAt, pairSays}
-use Rattle.product.proofs.Turns.{pairTrials, pairSlots, turn-hit, turn-miss, turn-end, pairs-same, pairs-start}
+use Rattle.product.specs.Trying.{fitting, withPairs}
+use Rattle.product.specs.Steps.{pairSays}
+use Rattle.product.proofs.Turns.{pairTrials, pairs-start, pairs-hit, pairs-miss, pairs-end}
 use borrow.Author.Needs.{needs}
 use native.Mathlib.Omega.{arith}
 use Rattle.product.proofs.inner.search_pairs.Statement.{statement}
@@ -21,7 +21,7 @@ abbrev μ-loop : tie.MeasureT-loop
 loop-holds : tie.Need-loop-holds Inv-loop μ-loop
 loop-holds c =
     let a = c .before .before .before .before .before .args in
-    (omega arith, pairs-start (a .w) (a .count) (a .atoms .now) (a .n) (a .listed .now) (a .target .now) (fitting (a .w) (a .atoms .now) (a .listed .now) (a .target .now)))
+    (omega arith, pairs-start (a .w) (a .count) (a .atoms .now) (a .n) (a .listed .now) (a .target .now))
 
 first-pair-requires : tie.Need-first-pair-requires Inv-loop μ-loop
 first-pair-requires c κs =
@@ -43,7 +43,7 @@ returns c =
     let f = c .before .before .before in
     let l = f .before .before .loop in
     let a = f .before .before .before .before .before .before .before .before .args in
-    sym (turn-hit (fitting (a .w) (a .atoms .now) (a .listed .now) (a .target .now)) Product.ofPair (pairSlots (a .w) (a .count) (a .atoms .now) (a .n) (a .listed .now) (a .target .now)) (λ (k : ℕ). fitsAt (a .w) (a .target .now) (a .atoms .now) k (a .listed .now)) (pairs-same (a .w) (a .count) (a .atoms .now) (a .n) (a .listed .now) (a .target .now)) (a .count) (l .a) (f .before .loop-test .taken) _ (ap pairSays (sym (c .before .fit .given .1)) ∙ f .first-pair .ensures))
+    sym (pairs-hit (a .w) (a .count) (a .atoms .now) (a .n) (a .listed .now) (a .target .now) (l .a) (f .before .loop-test .taken) _ (ap pairSays (sym (c .before .fit .given .1)) ∙ f .first-pair .ensures))
     ∙ l .inv .1
 
 enum-told : tie.Need-enum-told Inv-loop μ-loop
@@ -58,7 +58,7 @@ loop-again c =
     let l = f .before .before .loop in
     let a = f .before .before .before .before .before .before .before .before .args in (
       omega (arith, f .before .loop-test .taken),
-      turn-miss (fitting (a .w) (a .atoms .now) (a .listed .now) (a .target .now)) Product.ofPair (pairSlots (a .w) (a .count) (a .atoms .now) (a .n) (a .listed .now) (a .target .now)) (λ (k : ℕ). fitsAt (a .w) (a .target .now) (a .atoms .now) k (a .listed .now)) (pairs-same (a .w) (a .count) (a .atoms .now) (a .n) (a .listed .now) (a .target .now)) (a .count) (l .a) (f .before .loop-test .taken) (ap pairSays (sym (c .enum-told .given .1)) ∙ f .first-pair .ensures)
+      pairs-miss (a .w) (a .count) (a .atoms .now) (a .n) (a .listed .now) (a .target .now) (l .a) (f .before .loop-test .taken) (ap pairSays (sym (c .enum-told .given .1)) ∙ f .first-pair .ensures)
           ∙ l .inv .1,
     )
 
@@ -66,7 +66,7 @@ returns-2 : tie.Need-returns-2 Inv-loop μ-loop
 returns-2 c =
     let l = c .before .loop in
     let a = c .before .before .before .before .before .before .before .args in
-    sym (turn-end (fitting (a .w) (a .atoms .now) (a .listed .now) (a .target .now)) Product.ofPair (pairSlots (a .w) (a .count) (a .atoms .now) (a .n) (a .listed .now) (a .target .now)) (λ (k : ℕ). fitsAt (a .w) (a .target .now) (a .atoms .now) k (a .listed .now)) (pairs-same (a .w) (a .count) (a .atoms .now) (a .n) (a .listed .now) (a .target .now)) (a .count) (l .a) (c .loop-test .left)) ∙ l .inv .1
+    sym (pairs-end (a .w) (a .count) (a .atoms .now) (a .n) (a .listed .now) (a .target .now) (l .a) (c .loop-test .left)) ∙ l .inv .1
 
 pub search-pairs-spec : {M : Type 1} → statement M
 search-pairs-spec =
