@@ -157,11 +157,7 @@ fn settle_keys(
             };
         }
         if word_at(rows, order, n, at) == key {
-            return Sweep {
-                at: at,
-                key: key,
-                left: left,
-            };
+            return Sweep { at, key, left };
         }
         key = next_key(key, class.bits);
         left -= 1;

@@ -1,5 +1,5 @@
 -- `filter::inner::settle_tail` meets its contract: at 64 bits no word is 2^w or more, else those that are stand last. Assumes nothing.
-use mathlib.Core.Path.{sym, subst}
+use mathlib.Core.Path.{_≡_, subst}
 use Prim.Native.Nat.{ℕ, _*_, _^_, _<_}
 use lib.ListN.{getD}
 use borrow.Author.Needs.{needs}
@@ -16,8 +16,9 @@ returns c =
     let known = c .before .before .before .before in
     let s = known .before in
     let a = s .args in
+    let full : 64 ≡ a .class .w = omega (arith, c .if1 .taken) in
     tail-empty (a .class) (s .pre .2) (a .n) (a .rows .now) (a .order .now) (a .at)
-    (λ k. subst (λ (w : ℕ). getD (a .rows .now) (16 * getD (a .order .now) k 0) 0 < 2 ^ w) (sym (c .if1 .taken)) (known .shared-slice-known .given (16 * getD (a .order .now) k 0) .fits)) (s .pre .3)
+    (λ k. subst (λ (w : ℕ). getD (a .rows .now) (16 * getD (a .order .now) k 0) 0 < 2 ^ w) full (known .shared-slice-known .given (16 * getD (a .order .now) k 0) .fits)) (s .pre .3)
 
 cast-lower : tie.Need-cast-lower
 cast-lower c = search needs
