@@ -1,0 +1,4 @@
+-- The laws of this crate.
+pub mod Trials
+pub mod OwnPairs
+pub mod Nothing
