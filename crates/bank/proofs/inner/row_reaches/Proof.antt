@@ -6,7 +6,8 @@ use borrow.Author.Needs.{needs}
 use lib.ListN.{drop}
 use Rattle.arith.specs.Word.{modulus}
 use Rattle.bank.specs.Build.{reaches}
-use Rattle.bank.proofs.Reaching.{mask-lt, mask-le, reaches-here, reaches-later, reaches-none}
+use Rattle.arith.proofs.Remainders.{mask-lt, mask-le}
+use Rattle.bank.proofs.Reaching.{reaches-here, reaches-later, reaches-none}
 use Rattle.bank.proofs.inner.row_reaches.Statement.{statement}
 use Rattle.bank.proofs.inner.row_reaches.Tie as tie
 
