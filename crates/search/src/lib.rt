@@ -1,4 +1,7 @@
 // The product search: template_decomposer.rs, `layer2`'s product loop, after a first stage over two atoms.
+pub mod inner;
+
+use product::inner::Found;
 use simd::AtomSlot;
 use simd::PairSlot;
 ghost use mathlib.Core.Path.{_≡_};
@@ -23,6 +26,13 @@ pub fn product_search(
 ) -> ProductAnswer
     ensures { λ r. ⌜ productSays r ≡ product w count (now (atoms .entry)) pairs (now (listed .entry)) (now (slots .entry)) target ⌝ }
 {
-    // to be written
-    ProductAnswer::Nothing
+    let refusal = inner::search_refusal(w, count, atoms, pairs, listed, slots, target);
+    if refusal != 0 {
+        return ProductAnswer::Refused(refusal);
+    }
+    match product::inner::search_rows(atoms, count, listed, slots, pairs, &target, w) {
+        Found::Atoms(a, b) => ProductAnswer::Atoms(a, b),
+        Found::AtomPair(a, s) => ProductAnswer::AtomPair(a, s),
+        Found::Nothing => ProductAnswer::Nothing,
+    }
 }
