@@ -1,6 +1,7 @@
 -- `search::inner::search_refusal` meets its contract: the tests stand in the table's order. Assumes nothing.
 use mathlib.Core.Path.{refl, sym, ap, _∙_}
 use mathlib.Core.Bool.{not}
+use native.Mathlib.Omega.{arith}
 use borrow.Author.Needs.{needs}
 use borrow.Author.Tests.{lt-ltb, le-ltb}
 use Rattle.arith.proofs.Refusals.{refused-here, refused-later, or-here, or-later, within}
@@ -43,7 +44,8 @@ returns-4 c =
 row-reaches-requires : tie.Need-row-reaches-requires
 row-reaches-requires c κs =
     let e1 = c .before .before .before in
-    within 1 64 _ (sym (e1 .before .bad-width .ensures) ∙ e1 .if1 .left) .most
+    let a = e1 .before .before .before .before .before .args in
+    omega (arith, within 1 64 (a .w) (sym (e1 .before .bad-width .ensures) ∙ e1 .if1 .left) .most)
 
 returns-5 : tie.Need-returns-5
 returns-5 c =
