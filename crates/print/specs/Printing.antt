@@ -1,0 +1,48 @@
+-- What is printed from the lent arrays of a bank and an index. Assumes nothing.
+use mathlib.Core.Path.{_≡_}
+use mathlib.Core.Bool.{Bool}
+use mathlib.Core.List.{List}
+use Prim.Native.Nat.{ℕ, _+_, _*_, _≤_, _<_}
+use lib.ListN.{length, getD}
+use lib.Seq.{sets}
+use Rattle.atoms.specs.Bank.{Atom}
+use Rattle.atoms.specs.Encoding.{Arrays, written}
+use Rattle.index.specs.Index.{Pair, Index}
+use Rattle.index.specs.Build.{spread, pairPart}
+use Rattle.print.specs.Text.{listingOf}
+
+-- l′ is l with the text laid from place i on, and r is the place after it
+pub record Wrote (l : List ℕ) (i : ℕ) (l′ : List ℕ) (r : ℕ) (text : List ℕ) : Type 0 where
+  pub next : r ≡ i + length text
+  pub laid : l′ ≡ sets l i text
+
+-- how long a listing can get: 479 atoms of 6 tokens, 500 pairs
+abbrev pub textMax : ℕ
+textMax = 131072
+
+-- n atoms of at most six tokens each, and m pairs, in arrays that are long enough
+pub record Shown (lengths ops operands costs : List ℕ) (n : ℕ) (pairs : List ℕ) (m : ℕ) : Type 0 where
+  pub few : n ≤ 479
+  pub lengths-fit : n ≤ length lengths
+  pub ops-fit : 6 * n ≤ length ops
+  pub operands-fit : 6 * n ≤ length operands
+  pub costs-fit : 3 * n ≤ length costs
+  pub short : (k : ℕ) → k < n → getD lengths k 0 ≤ 6
+  pub some : m ≤ 500
+  pub pairs-fit : 3 * m ≤ length pairs
+
+-- the arrays hold the bank and the index, over whatever they held before
+pub record Holding (lengths ops operands costs : List ℕ) (n : ℕ) (pairs : List ℕ) (m : ℕ) (cut : Bool) (bank : List Atom) (index : Index) : Type 0 where
+  pub old : Arrays
+  pub rows : List ℕ
+  pub oldPairs : List ℕ
+  pub arrays : written bank old ≡ record { lengths = lengths; ops = ops; operands = operands; costs = costs; rows = rows }
+  pub pairs-are : pairs ≡ spread 3 pairPart (index .pairs) oldPairs
+  pub count : n ≡ length bank
+  pub pair-count : m ≡ length (index .pairs)
+  pub mark : cut ≡ index .cut
+
+-- what printing writes: whatever bank and index the arrays hold
+pub record Printed (lengths ops operands costs : List ℕ) (n : ℕ) (pairs : List ℕ) (m : ℕ) (cut : Bool) (out out′ : List ℕ) (r : ℕ) : Type 0 where
+  pub fits : r ≤ textMax
+  pub is : (bank : List Atom) (index : Index) → Holding lengths ops operands costs n pairs m cut bank index → Wrote out 0 out′ r (listingOf bank index)
