@@ -1,21 +1,59 @@
 -- What is printed from the lent arrays of a bank and an index. Assumes nothing.
 use mathlib.Core.Path.{_≡_}
 use mathlib.Core.Bool.{Bool}
-use mathlib.Core.List.{List}
-use Prim.Native.Nat.{ℕ, _+_, _*_, _≤_, _<_}
+use mathlib.Core.List.{List, _∷_, _++_, flatMap}
+use Prim.Native.Nat.{ℕ, zero, suc, _+_, _*_, _≤_, _<_}
 use lib.ListN.{length, getD}
 use lib.Seq.{sets}
+use Rattle.arith.specs.Lists.{countUp}
+use Rattle.arith.specs.Parts.{partAt}
+use Rattle.expr.specs.declared.Token.{Token}
+use Rattle.expr.specs.Formula.{tokens}
 use Rattle.atoms.specs.Bank.{Atom}
 use Rattle.atoms.specs.Encoding.{Arrays, written}
 use Rattle.index.specs.Index.{Pair, Index}
 use Rattle.index.specs.Build.{spread, pairPart}
-use Rattle.print.specs.Text.{listingOf}
+use Rattle.print.specs.Text.{decimal, field, tokenText, formulaLine, listingOf}
 
 -- l′ is l with the text laid from place i on, and r is the place after it
 pub record Wrote (l : List ℕ) (i : ℕ) (l′ : List ℕ) (r : ℕ) (text : List ℕ) : Type 0 where
   pub next : r ≡ i + length text
   pub laid : l′ ≡ sets l i text
 
+-- ---- the text from the arrays
+-- the lines of the first n slots
+unfoldable pub linesText : (ℕ → List ℕ) → ℕ → List ℕ
+unfolding flatMap countUp
+linesText line n = flatMap line (countUp 0 n)
+
+-- three numbers as a line: a cost's, or a pair's
+abbrev pub numbersLine : List ℕ → List ℕ
+numbersLine l = field (getD l 0 0) 32 ++ (field (getD l 1 0) 32 ++ field (getD l 2 0) 10)
+
+-- the line of slot k in an array of three numbers a slot
+unfoldable pub numbersAt : List ℕ → ℕ → List ℕ
+unfolding decimal partAt
+numbersAt numbers k = numbersLine (partAt 3 numbers k)
+
+-- the line of slot k's formula
+unfoldable pub formulaAt : List ℕ → List ℕ → List ℕ → ℕ → List ℕ
+unfolding formulaLine tokens partAt
+formulaAt lengths ops operands k = formulaLine (tokens (getD lengths k 0) (partAt 6 ops k) (partAt 6 operands k))
+
+-- a token with i others before it in its line
+unfoldable pub nextText : ℕ → Token → List ℕ
+unfolding tokenText
+nextText zero t = tokenText t
+nextText (suc i) t = 32 ∷ tokenText t
+
+-- n formulas of at most six tokens each, in arrays that are long enough
+pub record Stored (lengths ops operands : List ℕ) (n : ℕ) : Type 0 where
+  pub lengths-fit : n ≤ length lengths
+  pub ops-fit : 6 * n ≤ length ops
+  pub operands-fit : 6 * n ≤ length operands
+  pub short : (k : ℕ) → k < n → getD lengths k 0 ≤ 6
+
+-- ---- the listing
 -- how long a listing can get: 479 atoms of 6 tokens, 500 pairs
 abbrev pub textMax : ℕ
 textMax = 131072
