@@ -1,32 +1,31 @@
+-- `print::inner::print_listing` meets its contract: head, atoms and pairs, which is the listing of what the arrays hold. Assumes nothing.
 use native.Mathlib.Omega.{arith}
 use borrow.Author.Needs.{needs}
+use Rattle.print.proofs.Decimals.{then, reads}
+use Rattle.print.proofs.Listings.{listing-is}
 use Rattle.print.proofs.inner.print_listing.Statement.{statement}
 use Rattle.print.proofs.inner.print_listing.Tie as tie
-use Rattle.print.proofs.inner.print_listing.Reads as reads
-use Rattle.print.proofs.inner.print_listing.Lts as lts
-use Rattle.print.proofs.inner.lines.print_head.Reads as print-head-reads
-use Rattle.print.proofs.inner.lines.print_lines.Reads as print-lines-reads
-use Rattle.print.proofs.inner.print_atoms.Reads as print-atoms-reads
 
--- src/inner.rt:27:9
 print-head-requires : tie.Need-print-head-requires
 print-head-requires c κs = search needs
 
--- src/inner.rt:28:9
 print-atoms-requires : tie.Need-print-atoms-requires
 print-atoms-requires c κs = search needs
 
--- src/inner.rt:29:5
 print-lines-requires : tie.Need-print-lines-requires
 print-lines-requires c κs = search needs
 
--- src/inner.rt:13:1
 same-length : tie.Need-same-length
 same-length c = search needs
 
--- src/inner.rt:13:1
 returns : tie.Need-returns
-returns c = search needs
+returns c = let a = c .before .before .before .before .before .before .before .before .before .before .before .before .before .before .before .before .before .before .args in
+    record {
+      fits = omega (arith, c .before .before .before .before .before .before .before .before .before .before .before .before .before .before .before .before .before .before .pre .0 .few, c .before .before .before .before .before .before .before .before .before .before .before .before .before .before .before .before .before .before .pre .0 .some, c .before .before .before .before .before .before .before .before .before .before .print-head .ensures .1, c .before .before .before .before .before .before .print-atoms .ensures .1, c .before .before .print-lines .ensures .1);
+      is = λ bank index h.
+        reads (listing-is (a .lengths .now) (a .ops .now) (a .operands .now) (a .costs .now) (a .n) (a .pairs .now) (a .m) (a .cut) bank index (c .before .before .before .before .before .before .before .before .before .before .before .before .before .before .before .before .before .before .pre .0 .short) h)
+        (then (c .before .before .before .before .before .before .before .before .before .before .print-head .ensures .0) (then (c .before .before .before .before .before .before .print-atoms .ensures .0) (c .before .before .print-lines .ensures .0)));
+    }
 
 pub print-listing-spec : {M : Type 1} → statement M
 print-listing-spec =
