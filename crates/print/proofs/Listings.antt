@@ -34,10 +34,10 @@ flat-append f (x ∷ xs) ys = ap (λ (l : List ℕ). f x ++ l) (flat-append f xs
 pub lines-more : (line : ℕ → List ℕ) (k : ℕ) → linesText line k ++ line k ≡ linesText line (k + 1)
 unfolding linesText flatMap countUp
 lines-more line k = sym (
-  ap (flatMap line) (count-add 0 k 1)
+    ap (flatMap line) (count-add 0 k 1)
     ∙ flat-append line (countUp 0 k) (countUp (0 + k) 1)
     ∙ ap (λ (l : List ℕ). linesText line k ++ l) (append-nil (line (0 + k)) ∙ ap line (zero-add k))
-)
+    )
 
 -- no lines yet, and one line more, in the buffer
 pub no-lines : {l : List ℕ} {i : ℕ} (line : ℕ → List ℕ) → Wrote l i l i (linesText line 0)
@@ -54,8 +54,8 @@ places d g line [] i at = refl
 places d g line (x ∷ xs) i at =
     let e : i + 0 ≡ i = omega arith in
     ap₂ (λ (l m : List ℕ). l ++ m) (ap line (sym e) ∙ at 0 (omega arith)) (places d g line xs (suc i) λ k h.
-      let f : suc i + k ≡ i + suc k = omega arith in
-      ap line f ∙ at (suc k) (omega arith))
+    let f : suc i + k ≡ i + suc k = omega arith in
+    ap line f ∙ at (suc k) (omega arith))
 
 pub lines-are : {A : Type 0} (d : A) (g : A → List ℕ) (line : ℕ → List ℕ) (xs : List A) → ((k : ℕ) → k < length xs → line k ≡ g (getD xs k d)) → linesText line (length xs) ≡ flatMap g xs
 unfolding linesText

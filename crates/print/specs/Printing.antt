@@ -11,7 +11,7 @@ use Rattle.expr.specs.declared.Token.{Token}
 use Rattle.expr.specs.Formula.{tokens}
 use Rattle.atoms.specs.Bank.{Atom}
 use Rattle.atoms.specs.Encoding.{Arrays, written}
-use Rattle.index.specs.Index.{Pair, Index}
+use Rattle.index.specs.Index.{Index}
 use Rattle.index.specs.Build.{spread, pairPart}
 use Rattle.print.specs.Text.{decimal, field, tokenText, formulaLine, listingOf}
 
@@ -19,6 +19,42 @@ use Rattle.print.specs.Text.{decimal, field, tokenText, formulaLine, lis
 pub record Wrote (l : List ℕ) (i : ℕ) (l′ : List ℕ) (r : ℕ) (text : List ℕ) : Type 0 where
   pub next : r ≡ i + length text
   pub laid : l′ ≡ sets l i text
+
+-- ---- how long each piece of the text can get
+-- a number below 2^64, and one with the byte after it
+abbrev pub decimalMax : ℕ
+decimalMax = 20
+
+abbrev pub fieldMax : ℕ
+fieldMax = 21
+
+-- the head line, and the mark at its end
+abbrev pub headMax : ℕ
+headMax = 60
+
+abbrev pub markMax : ℕ
+markMax = 6
+
+-- a line of three numbers
+abbrev pub numbersMax : ℕ
+numbersMax = 63
+
+-- a token, and one with a blank before it
+abbrev pub tokenMax : ℕ
+tokenMax = 21
+
+abbrev pub nextMax : ℕ
+nextMax = 22
+
+-- 01, From heap ..: an atom has at most 6 tokens; the line of a formula, and both lines of an atom
+abbrev pub tokensMax : ℕ
+tokensMax = 6
+
+abbrev pub formulaMax : ℕ
+formulaMax = 133
+
+abbrev pub atomMax : ℕ
+atomMax = 196
 
 -- ---- the text from the arrays
 -- the lines of the first n slots

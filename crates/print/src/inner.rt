@@ -7,7 +7,7 @@ ghost use Prim.Native.Nat.{_+_, _*_, _≤_};
 ghost use mathlib.Core.List.{_++_};
 ghost use lib.ListN.{length};
 ghost use Rattle.print.specs.Text.{refusedLine};
-ghost use Rattle.print.specs.Printing.{Wrote, textMax, Stored, Shown, Printed, linesText, numbersAt, formulaAt};
+ghost use Rattle.print.specs.Printing.{Wrote, textMax, atomMax, Stored, Shown, Printed, linesText, numbersAt, formulaAt};
 
 // Writes the listing of n atoms and m pairs, and answers the place after it.
 pub fn print_listing(
@@ -39,9 +39,9 @@ fn print_atoms(
     costs: &[u32],
     n: usize,
 ) -> usize
-    requires { ⌜ (at + 196 * n ≤ length (now out)) × (3 * n ≤ length (now costs)) × Stored (now lengths) (now ops) (now operands) n ⌝ }
+    requires { ⌜ (at + atomMax * n ≤ length (now out)) × (3 * n ≤ length (now costs)) × Stored (now lengths) (now ops) (now operands) n ⌝ }
     ensures { λ r. ⌜ Wrote (now (out .entry)) at (now (out .exit)) r (linesText (numbersAt (now (costs .entry))) n ++ linesText (formulaAt (now (lengths .entry)) (now (ops .entry)) (now (operands .entry))) n) ⌝ }
-    ensures { λ r. ⌜ r ≤ at + 196 * n ⌝ }
+    ensures { λ r. ⌜ r ≤ at + atomMax * n ⌝ }
 {
     let after = lines::print_lines(out, at, costs, n);
     formulas::print_formulas(out, after, lengths, ops, operands, n)
@@ -51,6 +51,7 @@ fn print_atoms(
 pub fn print_refusal(out: &mut [u8], number: u32) -> usize
     requires { ⌜ textMax ≤ length (now out) ⌝ }
     ensures { λ r. ⌜ Wrote (now (out .entry)) 0 (now (out .exit)) r (refusedLine number) ⌝ }
+    ensures { λ r. ⌜ r ≤ textMax ⌝ }
 {
-    decimal::write_named(out, 0, b"refused ", number as u64, 10)
+    decimal::write_named(out, 0, b"refused ", number as u64, b'\n')
 }

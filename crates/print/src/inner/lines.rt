@@ -4,23 +4,24 @@ ghost use mathlib.Core.Bool.{cond};
 ghost use Prim.Native.Nat.{_+_, _*_, _≤_};
 ghost use lib.ListN.{length};
 ghost use Rattle.print.specs.Text.{headLine, cutWord, wholeWord};
-ghost use Rattle.print.specs.Printing.{Wrote, linesText, numbersAt};
+ghost use Rattle.print.specs.Printing.{Wrote, headMax, markMax, numbersMax, linesText, numbersAt};
 
-// `atoms N pairs M`, and whether the index is whole.
+// `atoms N pairs M`, and the mark.
 pub fn print_head(out: &mut [u8], at: usize, n: u64, m: u64, cut: bool) -> usize
-    requires { ⌜ at + 60 ≤ length (now out) ⌝ }
+    requires { ⌜ at + headMax ≤ length (now out) ⌝ }
     ensures { λ r. ⌜ Wrote (now (out .entry)) at (now (out .exit)) r (headLine n m cut) ⌝ }
-    ensures { λ r. ⌜ r ≤ at + 60 ⌝ }
+    ensures { λ r. ⌜ r ≤ at + headMax ⌝ }
 {
     let p = decimal::write_named(out, at, b"atoms ", n, b' ');
     let q = decimal::write_named(out, p, b"pairs ", m, b' ');
     print_mark(out, q, cut)
 }
 
+// Whether the index is cut, and the line's end.
 fn print_mark(out: &mut [u8], at: usize, cut: bool) -> usize
-    requires { ⌜ at + 6 ≤ length (now out) ⌝ }
+    requires { ⌜ at + markMax ≤ length (now out) ⌝ }
     ensures { λ r. ⌜ Wrote (now (out .entry)) at (now (out .exit)) r (cond cut cutWord wholeWord) ⌝ }
-    ensures { λ r. ⌜ r ≤ at + 6 ⌝ }
+    ensures { λ r. ⌜ r ≤ at + markMax ⌝ }
 {
     if cut {
         return decimal::put(out, at, b"cut\n");
@@ -28,11 +29,11 @@ fn print_mark(out: &mut [u8], at: usize, cut: bool) -> usize
     decimal::put(out, at, b"whole\n")
 }
 
-// The first n times three numbers, a line each.
+// The first n triples of numbers, a line each.
 pub fn print_lines(out: &mut [u8], at: usize, numbers: &[u32], n: usize) -> usize
-    requires { ⌜ (at + 63 * n ≤ length (now out)) × (3 * n ≤ length (now numbers)) ⌝ }
+    requires { ⌜ (at + numbersMax * n ≤ length (now out)) × (3 * n ≤ length (now numbers)) ⌝ }
     ensures { λ r. ⌜ Wrote (now (out .entry)) at (now (out .exit)) r (linesText (numbersAt (now (numbers .entry))) n) ⌝ }
-    ensures { λ r. ⌜ r ≤ at + 63 * n ⌝ }
+    ensures { λ r. ⌜ r ≤ at + numbersMax * n ⌝ }
 {
     let mut p = at;
     let mut k: usize = 0;
@@ -43,11 +44,11 @@ pub fn print_lines(out: &mut [u8], at: usize, numbers: &[u32], n: usize) -> usiz
     p
 }
 
-// The k-th three numbers.
+// Triple k.
 fn print_line(out: &mut [u8], at: usize, numbers: &[u32], k: usize) -> usize
-    requires { ⌜ (at + 63 ≤ length (now out)) × (3 * k + 3 ≤ length (now numbers)) ⌝ }
+    requires { ⌜ (at + numbersMax ≤ length (now out)) × (3 * k + 3 ≤ length (now numbers)) ⌝ }
     ensures { λ r. ⌜ Wrote (now (out .entry)) at (now (out .exit)) r (numbersAt (now (numbers .entry)) k) ⌝ }
-    ensures { λ r. ⌜ r ≤ at + 63 ⌝ }
+    ensures { λ r. ⌜ r ≤ at + numbersMax ⌝ }
 {
     let x = numbers[3 * k] as u64;
     let y = numbers[3 * k + 1] as u64;

@@ -23,8 +23,8 @@ returns c = let a = c .before .before .before .before .before .before .before .b
     record {
       fits = omega (arith, c .before .before .before .before .before .before .before .before .before .before .before .before .before .before .before .before .before .before .pre .0 .few, c .before .before .before .before .before .before .before .before .before .before .before .before .before .before .before .before .before .before .pre .0 .some, c .before .before .before .before .before .before .before .before .before .before .print-head .ensures .1, c .before .before .before .before .before .before .print-atoms .ensures .1, c .before .before .print-lines .ensures .1);
       is = λ bank index h.
-        reads (listing-is (a .lengths .now) (a .ops .now) (a .operands .now) (a .costs .now) (a .n) (a .pairs .now) (a .m) (a .cut) bank index (c .before .before .before .before .before .before .before .before .before .before .before .before .before .before .before .before .before .before .pre .0 .short) h)
-        (then (c .before .before .before .before .before .before .before .before .before .before .print-head .ensures .0) (then (c .before .before .before .before .before .before .print-atoms .ensures .0) (c .before .before .print-lines .ensures .0)));
+          reads (listing-is (a .lengths .now) (a .ops .now) (a .operands .now) (a .costs .now) (a .n) (a .pairs .now) (a .m) (a .cut) bank index (c .before .before .before .before .before .before .before .before .before .before .before .before .before .before .before .before .before .before .pre .0 .short) h)
+          (then (c .before .before .before .before .before .before .before .before .before .before .print-head .ensures .0) (then (c .before .before .before .before .before .before .print-atoms .ensures .0) (c .before .before .print-lines .ensures .0)));
     }
 
 pub print-listing-spec : {M : Type 1} → statement M

@@ -1,4 +1,5 @@
 -- `print::inner::print_refusal` meets its contract: the word, and the number after it. Assumes nothing.
+use native.Mathlib.Omega.{arith}
 use borrow.Author.Needs.{needs}
 use Rattle.print.specs.Text.{refusedLine}
 use Rattle.print.proofs.inner.print_refusal.Statement.{statement}
@@ -15,7 +16,7 @@ same-length c = search needs
 
 returns : tie.Need-returns
 unfolding refusedLine
-returns c = c .before .before .write-named .ensures .0
+returns c = (c .before .before .write-named .ensures .0, omega (arith, c .before .before .write-named .ensures .1))
 
 pub print-refusal-spec : {M : Type 1} → statement M
 print-refusal-spec =

@@ -6,7 +6,7 @@ use Prim.Native.Nat.{ℕ}
 use native.Mathlib.Omega.{arith}
 use native.Mathlib.Numerals.{add-one}
 use borrow.Author.Needs.{needs}
-use lib.ListN.{length, take, getD, length-set}
+use lib.ListN.{length, take, length-set}
 use lib.Seq.{take-suc, take-all}
 use Rattle.print.specs.Printing.{Wrote}
 use Rattle.print.proofs.Decimals.{one-more, reads, moved}
@@ -39,8 +39,7 @@ loop-less c = search needs
 
 loop-again : tie.Need-loop-again Inv-loop μ-loop
 loop-again c = let l = c .before .before .loop in
-    let s = c .before .before .before .args .s .now in
-    (
+    let s = c .before .before .before .args .s .now in (
       search needs,
       simp length-set (omega arith),
       reads (sym (ap (λ (k : ℕ). take k s) (add-one (l .i)) ∙ take-suc s (l .i) 0 (omega arith))) (moved (omega arith) (one-more _ (l .inv .2))),

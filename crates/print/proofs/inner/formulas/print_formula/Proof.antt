@@ -4,7 +4,7 @@ use Prim.Native.Nat.{ℕ, _+_, _-_, _*_, _≤_}
 use native.Mathlib.Omega.{arith}
 use borrow.Author.Needs.{needs}
 use lib.ListN.{length, length-set}
-use Rattle.print.specs.Printing.{Wrote}
+use Rattle.print.specs.Printing.{Wrote, nextMax}
 use Rattle.print.specs.Text.{tokensText, formulaLine}
 use Rattle.expr.specs.Formula.{tokens}
 use Rattle.print.proofs.Decimals.{then, reads, one-more, nothing}
@@ -13,7 +13,7 @@ use Rattle.print.proofs.inner.formulas.print_formula.Statement.{stateme
 use Rattle.print.proofs.inner.formulas.print_formula.Tie as tie
 
 abbrev Inv-loop : tie.InvT-loop
-Inv-loop out₀ at ops operands count p₀ i₀ out p i = (i ≤ count) × (length out ≡ length out₀) × (p ≤ at + 22 * i) × Wrote out₀ at out p (tokensText (tokens i ops operands))
+Inv-loop out₀ at ops operands count p₀ i₀ out p i = (i ≤ count) × (length out ≡ length out₀) × (p ≤ at + nextMax * i) × Wrote out₀ at out p (tokensText (tokens i ops operands))
 
 abbrev μ-loop : tie.MeasureT-loop
 μ-loop out₀ at ops operands count p₀ i₀ out p i = count - i
@@ -35,13 +35,12 @@ loop-less : tie.Need-loop-less Inv-loop μ-loop
 loop-less c = search needs
 
 loop-again : tie.Need-loop-again Inv-loop μ-loop
-loop-again c = let a = c .before .before .before .before .before .before .before .before .before .before .args in
-    (
-      search needs,
-      search needs,
-      search needs,
-      reads (token-more (a .ops .now) (a .operands .now) (c .before .before .before .before .before .before .loop .i) (c .before .before .before .token-at .result) (c .before .before .before .token-at .ensures)) (then (c .before .before .before .before .before .before .loop .inv .3) (c .before .before .print-next .ensures .0)),
-    )
+loop-again c = let a = c .before .before .before .before .before .before .before .before .before .before .args in (
+  search needs,
+  search needs,
+  search needs,
+  reads (token-more (a .ops .now) (a .operands .now) (c .before .before .before .before .before .before .loop .i) (c .before .before .before .token-at .result) (c .before .before .before .token-at .ensures)) (then (c .before .before .before .before .before .before .loop .inv .3) (c .before .before .print-next .ensures .0)),
+)
 
 slice-write-out : tie.Need-slice-write-out Inv-loop μ-loop
 slice-write-out c = search needs

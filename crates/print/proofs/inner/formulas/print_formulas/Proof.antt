@@ -4,14 +4,14 @@ use Prim.Native.Nat.{_+_, _-_, _*_, _≤_}
 use native.Mathlib.Omega.{arith}
 use borrow.Author.Needs.{needs}
 use lib.ListN.{length}
-use Rattle.print.specs.Printing.{Wrote, linesText, formulaAt}
+use Rattle.print.specs.Printing.{Wrote, formulaMax, linesText, formulaAt}
 use Rattle.print.proofs.Decimals.{reads}
 use Rattle.print.proofs.Listings.{no-lines, line-more, formula-at}
 use Rattle.print.proofs.inner.formulas.print_formulas.Statement.{statement}
 use Rattle.print.proofs.inner.formulas.print_formulas.Tie as tie
 
 abbrev Inv-loop : tie.InvT-loop
-Inv-loop out₀ at lengths ops operands n p₀ k₀ out p k = (k ≤ n) × (length out ≡ length out₀) × (p ≤ at + 133 * k) × Wrote out₀ at out p (linesText (formulaAt lengths ops operands) k)
+Inv-loop out₀ at lengths ops operands n p₀ k₀ out p k = (k ≤ n) × (length out ≡ length out₀) × (p ≤ at + formulaMax * k) × Wrote out₀ at out p (linesText (formulaAt lengths ops operands) k)
 
 abbrev μ-loop : tie.MeasureT-loop
 μ-loop out₀ at lengths ops operands n p₀ k₀ out p k = n - k
@@ -68,13 +68,12 @@ loop-less : tie.Need-loop-less Inv-loop μ-loop
 loop-less c = search needs
 
 loop-again : tie.Need-loop-again Inv-loop μ-loop
-loop-again c = let a = c .before .before .before .before .before .before .before .before .before .before .before .before .before .args in
-    (
-      search needs,
-      search needs,
-      search needs,
-      line-more (formulaAt (a .lengths .now) (a .ops .now) (a .operands .now)) (c .before .before .before .before .before .before .before .before .loop .k) (c .before .before .before .before .before .before .before .before .loop .inv .3) (reads (formula-at (a .lengths .now) (a .ops .now) (a .operands .now) (c .before .before .before .before .before .before .before .before .loop .k)) (c .before .before .print-formula .ensures .0)),
-    )
+loop-again c = let a = c .before .before .before .before .before .before .before .before .before .before .before .before .before .args in (
+  search needs,
+  search needs,
+  search needs,
+  line-more (formulaAt (a .lengths .now) (a .ops .now) (a .operands .now)) (c .before .before .before .before .before .before .before .before .loop .k) (c .before .before .before .before .before .before .before .before .loop .inv .3) (reads (formula-at (a .lengths .now) (a .ops .now) (a .operands .now) (c .before .before .before .before .before .before .before .before .loop .k)) (c .before .before .print-formula .ensures .0)),
+)
 
 same-length : tie.Need-same-length Inv-loop μ-loop
 same-length c = search needs

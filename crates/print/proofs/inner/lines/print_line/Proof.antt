@@ -63,9 +63,9 @@ same-length c = search needs
 
 returns : tie.Need-returns
 returns c = (
-      reads (numbers-at (c .before .before .before .before .before .before .before .before .before .before .before .before .before .before .before .before .before .args .numbers .now) (c .before .before .before .before .before .before .before .before .before .before .before .before .before .before .before .before .before .args .k)) (then (c .before .before .before .before .before .before .before .before .before .before .write-field .ensures .0) (then (c .before .before .before .before .before .before .write-field2 .ensures .0) (c .before .before .write-field3 .ensures .0))),
-      omega (arith, c .before .before .before .before .before .before .before .before .before .before .write-field .ensures .1, c .before .before .before .before .before .before .write-field2 .ensures .1, c .before .before .write-field3 .ensures .1),
-    )
+  reads (numbers-at (c .before .before .before .before .before .before .before .before .before .before .before .before .before .before .before .before .before .args .numbers .now) (c .before .before .before .before .before .before .before .before .before .before .before .before .before .before .before .before .before .args .k)) (then (c .before .before .before .before .before .before .before .before .before .before .write-field .ensures .0) (then (c .before .before .before .before .before .before .write-field2 .ensures .0) (c .before .before .write-field3 .ensures .0))),
+  omega (arith, c .before .before .before .before .before .before .before .before .before .before .write-field .ensures .1, c .before .before .before .before .before .before .write-field2 .ensures .1, c .before .before .write-field3 .ensures .1),
+)
 
 pub print-line-spec : {M : Type 1} → statement M
 print-line-spec =

@@ -4,14 +4,14 @@ use Prim.Native.Nat.{_+_, _-_, _*_, _≤_}
 use native.Mathlib.Omega.{arith}
 use borrow.Author.Needs.{needs}
 use lib.ListN.{length}
-use Rattle.print.specs.Printing.{Wrote, linesText, numbersAt}
+use Rattle.print.specs.Printing.{Wrote, numbersMax, linesText, numbersAt}
 use Rattle.print.proofs.Decimals.{reads}
 use Rattle.print.proofs.Listings.{no-lines, line-more}
 use Rattle.print.proofs.inner.lines.print_lines.Statement.{statement}
 use Rattle.print.proofs.inner.lines.print_lines.Tie as tie
 
 abbrev Inv-loop : tie.InvT-loop
-Inv-loop out₀ at numbers n p₀ k₀ out p k = (k ≤ n) × (length out ≡ length out₀) × (p ≤ at + 63 * k) × Wrote out₀ at out p (linesText (numbersAt numbers) k)
+Inv-loop out₀ at numbers n p₀ k₀ out p k = (k ≤ n) × (length out ≡ length out₀) × (p ≤ at + numbersMax * k) × Wrote out₀ at out p (linesText (numbersAt numbers) k)
 
 abbrev μ-loop : tie.MeasureT-loop
 μ-loop out₀ at numbers n p₀ k₀ out p k = n - k
