@@ -61,7 +61,7 @@ write-decimal-returns : (t : ℕ) → write-decimal-lts.Need-returns (
   write-decimal-below t,
   write-decimal.Post,
 ) (write-decimal-at t) write-decimal.Post
-write-decimal-returns t c = reads (sym (decimal-small (c .before .before .args .x) (c .if1 .taken))) (one _)
+write-decimal-returns t c = reads (sym (decimal-small (c .before .before .args .x) (omega arith))) (one _)
 
 write-decimal-write-decimal-requires : (t : ℕ) → write-decimal-lts.Need-write-decimal-requires (
   write-decimal-below t,
