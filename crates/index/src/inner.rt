@@ -101,7 +101,7 @@ pub fn build(
     requires { ⌜ Fits w count limit (now rows) (now work) (now pairs) (now listed) (now slots) ⌝ }
     ensures { λ r. ⌜ Made w count limit (now (rows .entry)) (now (pairs .entry)) (now (listed .entry)) (now (slots .entry)) (now (pairs .exit)) (now (listed .exit)) (now (slots .exit)) r ⌝ }
 {
-    let bits = maps::map_bits(limit);
+    let bits = maps::map_bits(limit, count);
     let job = Job {
         w,
         count,

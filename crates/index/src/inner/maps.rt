@@ -20,15 +20,25 @@ const BANK_AREA: usize = 1503;
 // What 4 × (L + 479) words leave for the heads of the pairs' map, where L is 0.
 const HEAD_ROOM: usize = 413;
 
-// The bits of the pairs' map: as many heads as there is room for.
-pub fn map_bits(limit: usize) -> u32
-    requires { ⌜ limit ≤ limitMax ⌝ }
-    ensures { λ r. ⌜ (r ≤ 31) × (2 ^ r ≤ headRoom limit) ⌝ }
+// How many heads the pairs' map may have: what there is room for, but not many more than trials, since all are emptied.
+fn most_heads(limit: usize, count: usize) -> usize
+    requires { ⌜ (limit ≤ limitMax) × (count ≤ atomsMax) ⌝ }
+    ensures { λ r. ⌜ r ≤ headRoom limit ⌝ }
 {
     let room = 3 * limit + HEAD_ROOM;
+    let wanted = 6 * count * count;
+    if wanted < room { wanted } else { room }
+}
+
+// The bits of the pairs' map.
+pub fn map_bits(limit: usize, count: usize) -> u32
+    requires { ⌜ (limit ≤ limitMax) × (count ≤ atomsMax) ⌝ }
+    ensures { λ r. ⌜ (r ≤ 31) × (2 ^ r ≤ headRoom limit) ⌝ }
+{
+    let most = most_heads(limit, count);
     let mut heads: usize = 256;
     let mut bits: u32 = 8;
-    while 2 * heads <= room {
+    while 2 * heads <= most {
         heads = 2 * heads;
         bits += 1;
     }

@@ -3,23 +3,19 @@ use mathlib.Core.Path.{_≡_}
 use Prim.Native.Nat.{_+_, _-_, _*_, _^_, _≤_}
 use native.Mathlib.Omega.{arith}
 use borrow.Author.Needs.{needs}
+use Rattle.index.specs.Steps.{headRoom}
 use Rattle.index.proofs.AreaLaws.{doubled, few-bits}
-use mathlib.Core.Path.{_≡_}
-use Prim.Native.Nat.{_+_, _-_, _*_, _^_, _≤_}
 use Rattle.index.proofs.inner.maps.map_bits.Statement.{statement}
 use Rattle.index.proofs.inner.maps.map_bits.Tie as tie
 
 abbrev Inv-loop : tie.InvT-loop
-Inv-loop limit room heads₀ bits₀ heads bits = ((heads ≡ 2 ^ bits) × (heads ≤ room)) × ((bits ≤ 31) × (1 ≤ heads))
+Inv-loop limit count most heads₀ bits₀ heads bits = ((heads ≡ 2 ^ bits) × (heads ≤ headRoom limit)) × ((bits ≤ 31) × (1 ≤ heads))
 
 abbrev μ-loop : tie.MeasureT-loop
-μ-loop limit room heads₀ bits₀ heads bits = room - heads
+μ-loop limit count most heads₀ bits₀ heads bits = most - heads
 
-mul-room : tie.Need-mul-room Inv-loop μ-loop
-mul-room c = search needs
-
-add-room : tie.Need-add-room Inv-loop μ-loop
-add-room c = search needs
+most-heads-requires : tie.Need-most-heads-requires Inv-loop μ-loop
+most-heads-requires c κs = search needs
 
 loop-holds : tie.Need-loop-holds Inv-loop μ-loop
 loop-holds c = search needs
@@ -40,7 +36,7 @@ loop-again : tie.Need-loop-again Inv-loop μ-loop
 loop-again c =
     let l = c .before .loop in
     let e = doubled (l .bits) (l .heads) (l .inv .0 .0) in
-    ((e, omega arith), (few-bits (l .bits + 1) (3 * c .before .before .args .limit + 413) (omega (arith, e)) (omega arith), omega arith))
+    ((e, omega arith), (few-bits (l .bits + 1) (headRoom (c .before .before .before .args .limit)) (omega (arith, e)) (omega arith), omega arith))
 
 returns : tie.Need-returns Inv-loop μ-loop
 returns c = search needs
@@ -51,8 +47,7 @@ map-bits-spec =
     (tie.spec
     Inv-loop
     μ-loop
-    mul-room
-    add-room
+    most-heads-requires
     loop-holds
     mul-loop
     mul-heads
