@@ -20,12 +20,12 @@ pub fn row_reaches(row: [u64; 16], w: u32) -> bool
     ensures { λ r. ⌜ r ≡ reaches (2 ^ w) row ⌝ }
 {
     let mask = arith::bitmask(w);
-    let mut i: usize = 0;
-    while i < simd::ROW_WORDS {
-        if mask < row[i] {
+    let mut k: usize = 0;
+    while k < simd::ROW_WORDS {
+        if mask < row[k] {
             return true;
         }
-        i += 1;
+        k += 1;
     }
     false
 }
