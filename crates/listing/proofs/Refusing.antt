@@ -3,10 +3,11 @@ use mathlib.Core.Path.{_≡_, refl, sym, ap, ap₂, _∙_}
 use mathlib.Core.Bool.{Bool, true, false, _||_}
 use mathlib.Core.List.{List}
 use Prim.Native.Nat.{ℕ, _*_, _^_, _≤_}
-use borrow.Author.Tests.{le-ltb}
+use native.Mathlib.Omega.{arith}
+use borrow.Author.Tests.{le-ltb, ltb-false}
 use lib.Dec.{ltb}
 use Rattle.arith.specs.Refusal.{refuse, outsideOf, badCount, badWidth}
-use Rattle.arith.proofs.Refusals.{refused-here, refused-later, or-later, within}
+use Rattle.arith.proofs.Refusals.{refused-here, refused-later, or-later, within, passed}
 use Rattle.probe.specs.declared.Point.{Point}
 use Rattle.bank.specs.declared.Sizes.{Sizes}
 use Rattle.bank.specs.Build.{reaches, pointsReach, bankRefusal}
@@ -49,10 +50,20 @@ module _ (ns : List ℕ) where
   unfolding numbersRefusal
   number-last e f g = refused-later 1 e (refused-later 2 f (refused-later 3 g refl))
 
-  pub in-range : badCount (countOf ns) ≡ false → badWidth (widthOf ns) ≡ false → InRange ns
-  in-range e f = record {
+  pub in-range : badCount (countOf ns) ≡ false → badWidth (widthOf ns) ≡ false → ltb 500 (limitOf ns) ≡ false → InRange ns
+  in-range e f g = record {
     some = within 1 6 (countOf ns) e .least;
     few = within 1 6 (countOf ns) e .most;
     wide = within 1 64 (widthOf ns) f .least;
     narrow = within 1 64 (widthOf ns) f .most;
+    most = ltb-false 500 (limitOf ns) g;
   }
+
+  -- where nothing is refused
+  pub none-refused : numbersRefusal ns ≡ 0 → InRange ns
+  unfolding numbersRefusal
+  none-refused e =
+      let first = passed (badCount (countOf ns)) 1 _ (omega arith) e in
+      let second = passed (badWidth (widthOf ns)) 2 _ (omega arith) (first .1) in
+      let third = passed (ltb 500 (limitOf ns)) 3 _ (omega arith) (second .1) in
+      in-range (first .0) (second .0) (third .0)

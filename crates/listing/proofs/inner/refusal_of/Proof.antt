@@ -45,7 +45,7 @@ reach-refusal-requires : tie.Need-reach-refusal-requires
 reach-refusal-requires c κs =
     let f = c .before in
     let e = f .before .before in
-    in-range (e .before .before .args .t1) (sym (e .before .outside .ensures) ∙ e .if1 .left) (sym (f .before .outside2 .ensures) ∙ f .if2 .left)
+    in-range (e .before .before .args .t1) (sym (e .before .outside .ensures) ∙ e .if1 .left) (sym (f .before .outside2 .ensures) ∙ f .if2 .left) (le-ltb _ _ (c .if3 .left))
 
 returns-4 : tie.Need-returns-4
 returns-4 c =
