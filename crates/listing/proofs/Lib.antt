@@ -2,3 +2,4 @@
 pub mod Numbers
 pub mod Refusing
 pub mod Building
+pub mod Keeping
