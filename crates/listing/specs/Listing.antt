@@ -1,0 +1,84 @@
+-- What the listing program writes of a text. Assumes nothing.
+use mathlib.Core.Path.{_≡_}
+use mathlib.Core.Bool.{cond, _||_}
+use mathlib.Core.List.{List, map}
+use mathlib.Core.Option.{Option, none, some}
+use Prim.Native.Nat.{ℕ, _+_, _*_, _^_, _≤_, _<_}
+use lib.Dec.{ltb}
+use lib.ListN.{length, getD, take, drop}
+use Rattle.arith.specs.Lists.{countUp}
+use Rattle.arith.specs.Refusal.{refuse, badCount, badWidth}
+use Rattle.probe.specs.declared.Point.{Point}
+use Rattle.atoms.specs.Bank.{Atom}
+use Rattle.atoms.specs.Stock.{bankOf}
+use Rattle.atoms.specs.Encoding.{padTo}
+use Rattle.index.specs.Index.{allGates, indexOf}
+use Rattle.bank.specs.Build.{reaches, pointsReach}
+use Rattle.parse.specs.declared.Parse.{Parse}
+use Rattle.parse.specs.Text.{readText}
+use Rattle.parse.specs.Reading.{Reads}
+use Rattle.print.specs.Text.{listingOf, refusedLine}
+use Rattle.print.specs.Printing.{Wrote, textMax}
+use Rattle.listing.specs.declared.ListingAnswer.{ListingAnswer}
+use Rattle.listing.specs.declared.ListingAnswer.the-variants.{Written, Refused}
+
+-- ---- 01, Listing program: variable count, width, L, the words of each point in turn, the target row
+abbrev pub countOf : List ℕ → ℕ
+countOf ns = getD ns 0 0
+
+abbrev pub widthOf : List ℕ → ℕ
+widthOf ns = getD ns 1 0
+
+abbrev pub limitOf : List ℕ → ℕ
+limitOf ns = getD ns 2 0
+
+-- the words of point k, and 0 in the places past the variable count
+unfoldable pub pointOf : List ℕ → ℕ → Point
+unfolding padTo
+pointOf ns k = record { words = padTo 6 0 (take (countOf ns) (drop (3 + countOf ns * k) ns)) }
+
+unfoldable pub pointsOf : List ℕ → List Point
+unfolding pointOf countUp
+pointsOf ns = map (pointOf ns) (countUp 0 16)
+
+unfoldable pub targetOf : List ℕ → List ℕ
+targetOf ns = take 16 (drop (3 + 16 * countOf ns) ns)
+
+-- ---- 01, Turned back, for the listing program, after 9: 1, 2, 3 (L above 500), 5
+unfoldable pub numbersRefusal : List ℕ → ℕ
+unfolding pointsOf targetOf reaches pointsReach
+numbersRefusal ns =
+    refuse (badCount (countOf ns)) 1
+    (refuse (badWidth (widthOf ns)) 2
+    (refuse (ltb 500 (limitOf ns)) 3
+    (refuse (pointsReach (2 ^ widthOf ns) (countOf ns) (pointsOf ns) || reaches (2 ^ widthOf ns) (targetOf ns)) 5 0)))
+
+-- the bank that the numbers ask for, and the text of it and its index
+unfoldable pub bankFor : List ℕ → List Atom
+unfolding bankOf pointsOf targetOf
+bankFor ns = bankOf (countOf ns) (widthOf ns) (pointsOf ns) (targetOf ns)
+
+unfoldable pub textFor : List ℕ → List ℕ
+unfolding bankFor indexOf listingOf
+textFor ns = listingOf (bankFor ns) (indexOf (widthOf ns) (limitOf ns) allGates (map (λ (a : Atom). a .row) (bankFor ns)))
+
+-- 01, Turned back: 9 precedes all
+unfoldable pub textOf : Option (List ℕ) → List ℕ
+unfolding numbersRefusal textFor refusedLine
+textOf none = refusedLine 9
+textOf (some ns) = cond (ltb 0 (numbersRefusal ns)) (refusedLine (numbersRefusal ns)) (textFor ns)
+
+-- 01, Listing program: what is written of what is read
+unfoldable pub listing : List ℕ → List ℕ
+unfolding textOf readText
+listing text = textOf (readText text)
+
+-- ---- the call
+-- the text is laid from the buffer's start on, and its length is the answer
+abbrev pub Laid : List ℕ → List ℕ → ListingAnswer → List ℕ → Type 0
+Laid out out′ r text = (r ≡ Written (length text)) × Wrote out 0 out′ (length text) text
+
+-- a buffer shorter than 131,072 is refused 4 and stays as it is
+pub record Listed (p : Parse) (out out′ : List ℕ) (r : ListingAnswer) : Type 0 where
+  pub short : length out < textMax → (r ≡ Refused 4) × (out′ ≡ out)
+  pub written : textMax ≤ length out → (text : List ℕ) → length text + 1 < 2 ^ 64 → Reads p text → Laid out out′ r (listing text)

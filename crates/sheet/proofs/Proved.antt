@@ -1,0 +1,51 @@
+-- The sheet holds: by computation, and P8 by arithmetic. Assumes nothing.
+use mathlib.Core.Path.{_≡_, refl, sym, ap, _∙_}
+use mathlib.Core.Bool.{true, false}
+use Prim.Native.Nat.{ℕ, _-_, _*_, _%_, _^_, _<_}
+use native.Mathlib.Nat.{one-mul, mod-eq-of-lt}
+use lib.Dec.{eqb}
+use Rattle.arith.specs.Lists.{countUp, keep}
+use Rattle.simd.specs.Gates.{gateOf, gateRow}
+use Rattle.expr.specs.Cost.{infoOf, costOf}
+use Rattle.solve.specs.Equation.{used, solves}
+use Rattle.atoms.specs.Stock.{seedsOf, bankOf}
+use Rattle.index.specs.Index.{allGates, indexOf}
+use Rattle.bank.specs.Build.{reaches, pointsReach}
+use Rattle.listing.specs.Listing.{listing}
+use Rattle.sheet.specs.Inputs.{again, points, bank2, bank9, input1, output1}
+use Rattle.sheet.specs.Sheet.{Sheet}
+
+-- P8: 1 × f is f below 2^64
+alone : (f : ℕ) → f < 2 ^ 64 → (1 * f) % 2 ^ 64 ≡ f
+alone f h = ap (λ (x : ℕ). x % 2 ^ 64) (one-mul f) ∙ mod-eq-of-lt h
+
+pub sheet : Sheet
+unfolding listing again points bank2 bank9 input1 output1 infoOf costOf gateOf gateRow used solves seedsOf bankOf allGates indexOf reaches pointsReach countUp keep
+sheet = record {
+  p1 = refl;
+  p2-count = refl;
+  p2-last = refl;
+  p2-row = refl;
+  p3-first = refl;
+  p3-none = refl;
+  p3-full = refl;
+  p3-whole = refl;
+  p3-cut = refl;
+  p4-square = refl;
+  p4-triple = refl;
+  p5-four = (refl, refl);
+  p5-three = (refl, refl);
+  p6-zero = refl;
+  p6-one = (refl, refl);
+  p7-many = (refl, refl);
+  p7-unused = refl;
+  p7-none = (refl, refl);
+  p8 = ?;
+  p9-before = refl;
+  p9-after = refl;
+  p10-seeds = refl;
+  p10-counts = (refl, refl);
+  p10-forms = (refl, refl);
+  last-256 = refl;
+  last-255 = refl;
+}

@@ -1,0 +1,3 @@
+-- 01's bench sheet.
+pub mod Inputs
+pub mod Sheet
