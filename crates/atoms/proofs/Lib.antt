@@ -7,4 +7,3 @@ pub mod Growth
 pub mod Soundness
 pub mod Stocks
 pub mod Banks
-pub mod SheetDraft

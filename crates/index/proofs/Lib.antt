@@ -6,4 +6,3 @@ pub mod AreaLaws
 pub mod TrialLaws
 pub mod Passing
 pub mod WholeLaws
-pub mod SheetDraft

@@ -3,11 +3,16 @@ use mathlib.Core.Path.{_≡_, refl, sym, ap, _∙_}
 use mathlib.Core.Bool.{true, false}
 use Prim.Native.Nat.{ℕ, _-_, _*_, _%_, _^_, _<_}
 use native.Mathlib.Nat.{one-mul, mod-eq-of-lt}
+use mathlib.Core.Logic.{_↔_}
+use native.Mathlib.Omega.{arith}
+use lib.Count.{trailingZeros}
 use lib.Dec.{eqb}
+use borrow.Author.Tests.{eqb-true, eq-eqb}
 use Rattle.arith.specs.Lists.{countUp, keep}
 use Rattle.simd.specs.Gates.{gateOf, gateRow}
-use Rattle.expr.specs.Cost.{infoOf, costOf}
-use Rattle.solve.specs.Equation.{used, solves}
+use Rattle.expr.specs.Cost.{infoOf}
+use Rattle.solve.specs.Equation.{zerosOf, used, solves}
+use Rattle.solve.proofs.Used.{used-few}
 use Rattle.atoms.specs.Stock.{seedsOf, bankOf}
 use Rattle.index.specs.Index.{allGates, indexOf}
 use Rattle.bank.specs.Build.{reaches, pointsReach}
@@ -16,11 +21,26 @@ use Rattle.sheet.specs.Inputs.{again, points, bank2, bank9, input1, outp
 use Rattle.sheet.specs.Sheet.{Sheet}
 
 -- P8: 1 × f is f below 2^64
-alone : (f : ℕ) → f < 2 ^ 64 → (1 * f) % 2 ^ 64 ≡ f
+alone : (f : ℕ) → f < 2 ^ 64 → 1 * f % 2 ^ 64 ≡ f
 alone f h = ap (λ (x : ℕ). x % 2 ^ 64) (one-mul f) ∙ mod-eq-of-lt h
 
+only : (f t : ℕ) → f < 2 ^ 64 → t < 2 ^ 64 → (solves 64 1 t f ≡ true) ↔ (f ≡ t)
+unfolding solves
+only f t h k = (
+  λ e. sym (alone f h) ∙ eqb-true (1 * f % 2 ^ 64) (t % 2 ^ 64) e ∙ mod-eq-of-lt k,
+  λ e. eq-eqb (1 * f % 2 ^ 64) (t % 2 ^ 64) (alone f h ∙ e ∙ sym (mod-eq-of-lt k)),
+)
+
+no-zeros : zerosOf 1 ≡ 0
+unfolding trailingZeros
+no-zeros = refl
+
+-- 1 has no trailing zeros, so that the rule says "used" for every t
+odd-used : (t : ℕ) → used 1 t ≡ true
+odd-used t = used-few 1 t (λ e. absurd (omega arith)) (omega (arith, no-zeros))
+
 pub sheet : Sheet
-unfolding listing again points bank2 bank9 input1 output1 infoOf costOf gateOf gateRow used solves seedsOf bankOf allGates indexOf reaches pointsReach countUp keep
+unfolding listing again points bank2 bank9 input1 output1 infoOf gateOf gateRow used trailingZeros solves seedsOf bankOf allGates indexOf reaches pointsReach countUp keep
 sheet = record {
   p1 = refl;
   p2-count = refl;
@@ -40,7 +60,7 @@ sheet = record {
   p7-many = (refl, refl);
   p7-unused = refl;
   p7-none = (refl, refl);
-  p8 = ?;
+  p8 = (odd-used (2 ^ 64 - 1), λ f h. only f (2 ^ 64 - 1) h (omega arith));
   p9-before = refl;
   p9-after = refl;
   p10-seeds = refl;
