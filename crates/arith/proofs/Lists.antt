@@ -1,6 +1,6 @@
 -- Laws of membership and of counting up. Assumes nothing.
-use mathlib.Core.Path.{_≡_, refl, sym, ap, _∙_, subst}
-use mathlib.Core.Bool.{Bool, true, false}
+use mathlib.Core.Path.{_≡_, refl, sym, ap, ap₂, _∙_, subst}
+use mathlib.Core.Bool.{Bool, true, false, cond}
 use mathlib.Core.Logic.{_⊎_, inl, inr}
 use mathlib.Core.List.{List, [], _∷_, _++_, map, flatMap}
 use mathlib.Core.Option.{some}
@@ -136,3 +136,15 @@ module _ {A : Type 0} (test : A → Bool) (x : A) (l : List A) where
   pub first-no : test x ≡ false → firstThat test (x ∷ l) ≡ firstThat test l
   unfolding firstThat
   first-no e = rw (e, firstThat)
+
+-- a test that nothing passes, and two tests that say the same
+module _ {A : Type 0} (test : A → Bool) where
+  pub keep-none : (l : List A) → ((x : A) → test x ≡ false) → keep test l ≡ []
+  unfolding keep
+  keep-none [] h = refl
+  keep-none (x ∷ l) h = keep-no test x l (h x) ∙ keep-none l h
+
+  pub keep-same : (other : A → Bool) (l : List A) → ((x : A) → test x ≡ other x) → keep test l ≡ keep other l
+  unfolding keep
+  keep-same other [] h = refl
+  keep-same other (x ∷ l) h = ap₂ (λ (b : Bool) (m : List A). cond b (x ∷ m) m) (h x) (keep-same other l h)

@@ -1,11 +1,14 @@
 -- Laws of refusals. Assumes nothing.
-use mathlib.Core.Path.{_≡_, ap, _∙_}
+use mathlib.Core.Path.{_≡_, refl, ap, _∙_}
 use mathlib.Core.Logic.{_⊎_, inl, inr}
-use mathlib.Core.Bool.{Bool, true, false, _||_}
-use Prim.Native.Nat.{ℕ, _≤_, _<_}
+use mathlib.Core.Bool.{Bool, true, false, _||_, cond}
+use Prim.Native.Nat.{ℕ, _*_, _/_, _≤_, _<_}
+use native.Mathlib.Decide.{decLt}
+use native.Mathlib.Nat.{div-lt-iff-lt-mul, mul-comm}
 use native.Mathlib.Omega.{arith}
-use borrow.Author.Tests.{lt-ltb, le-ltb}
-use Rattle.arith.specs.Refusal.{refuse, outsideOf}
+use borrow.Author.Tests.{lt-ltb, le-ltb, ltb-false}
+use lib.Dec.{ltb}
+use Rattle.arith.specs.Refusal.{refuse, unlessRefused, outsideOf}
 use Rattle.arith.proofs.Remainders.{le-or-lt}
 
 pub true-not-false : true ≡ false → ⊥
@@ -37,3 +40,27 @@ within low high n h = go (le-or-lt low n) (le-or-lt n high)
     go (inl a) (inl b) = record { least = a; most = b }
     go (inl a) (inr b) = absurd (true-not-false (simp (le-ltb n low a, lt-ltb high n b) at h))
     go (inr a) b = absurd (true-not-false (simp (lt-ltb n low a) at h))
+
+-- ---- what is known where nothing is refused
+-- a test that did not refuse, and the rest of the row
+pub passed : (b : Bool) (number rest : ℕ) → 0 < number → refuse b number rest ≡ 0 → (b ≡ false) × (rest ≡ 0)
+passed true number rest h e = absurd (omega arith)
+passed false number rest h e = (refl, e)
+
+pub neither : (a b : Bool) → (a || b) ≡ false → (a ≡ false) × (b ≡ false)
+neither true b e = absurd (true-not-false e)
+neither false b e = (refl, e)
+
+-- a length that is enough
+pub enough : (s n k : ℕ) → 0 < s → ltb (n / s) k ≡ false → s * k ≤ n
+enough s n k h e = elim (decLt n (k * s)) [
+  | yes l ↦ absurd (omega (arith, ltb-false (n / s) k e, div-lt-iff-lt-mul {k = s} {x = n} {y = k} h .1 l))
+  | no m ↦ omega (arith, mul-comm k s)
+]
+
+-- ---- the answer
+pub unless-refused : {A : Type 0} (n : ℕ) (a b : A) → 0 < n → unlessRefused n a b ≡ b
+unless-refused n a b h = ap (λ (t : Bool). cond t b a) (lt-ltb 0 n h)
+
+pub unless-not : {A : Type 0} (n : ℕ) (a b : A) → n ≡ 0 → unlessRefused n a b ≡ a
+unless-not n a b h = ap (λ (t : Bool). cond t b a) (le-ltb 0 n (omega arith))

@@ -19,6 +19,13 @@ width-le w = omega arith
 pub modulus-is : (w : ℕ) → w ≤ 64 → modulus w ≡ 2 ^ w
 modulus-is w h = let e : min w 64 ≡ w = omega arith in ap (λ (k : ℕ). 2 ^ k) e
 
+-- above the mask is not below 2^w
+pub mask-lt : (w mask x : ℕ) → w ≤ 64 → mask ≡ modulus w - 1 → mask < x → 2 ^ w ≤ x
+mask-lt w mask x h e l = let m = modulus-is w h in let p = pow-pos w in omega arith
+
+pub mask-le : (w mask x : ℕ) → w ≤ 64 → mask ≡ modulus w - 1 → x ≤ mask → x < 2 ^ w
+mask-le w mask x h e l = let m = modulus-is w h in let p = pow-pos w in omega arith
+
 -- one, shifted by less than the word's width
 pub shl-one : {w : ℕ} → w < 64 → (1 * 2 ^ w) % 2 ^ 64 ≡ 2 ^ w
 shl-one {w} h = ap (λ (x : ℕ). x % 2 ^ 64) (one-mul (2 ^ w)) ∙ mod-eq-of-lt (pow-lt h)

@@ -2,24 +2,13 @@
 use mathlib.Core.Path.{_≡_, sym, ap, _∙_}
 use mathlib.Core.Bool.{Bool, true, false, _||_}
 use mathlib.Core.List.{List}
-use Prim.Native.Nat.{ℕ, suc, _+_, _-_, _^_, _≤_, _<_}
+use Prim.Native.Nat.{ℕ, suc, _+_, _≤_, _<_}
 use native.Mathlib.Numerals.{add-one}
-use native.Mathlib.Omega.{arith}
 use borrow.Author.Tests.{le-leb, lt-leb}
 use lib.ListN.{length, getD, take, drop, drop-of-length-le}
-use lib.Pow.{pow-pos}
 use lib.Seq.{drop-cons}
-use Rattle.arith.specs.Word.{modulus}
-use Rattle.arith.proofs.Remainders.{modulus-is}
 use Rattle.probe.specs.declared.Point.{Point}
 use Rattle.bank.specs.Build.{reaches, pointsReach}
-
--- above the mask is not below 2 ^ w
-pub mask-lt : (w mask x : ℕ) → w ≤ 64 → mask ≡ modulus w - 1 → mask < x → 2 ^ w ≤ x
-mask-lt w mask x h e l = let m = modulus-is w h in let p = pow-pos w in omega arith
-
-pub mask-le : (w mask x : ℕ) → w ≤ 64 → mask ≡ modulus w - 1 → x ≤ mask → x < 2 ^ w
-mask-le w mask x h e l = let m = modulus-is w h in let p = pow-pos w in omega arith
 
 -- what a list from place i on tells of the word there
 pub reaches-here : (m : ℕ) (l : List ℕ) (i : ℕ) → i < length l → m ≤ getD l i 0 → reaches m (drop i l) ≡ true

@@ -1,16 +1,34 @@
-// The phases of a bank build, over arrays that have been tested.
+// The phases of a bank build, over arrays that have been tested, and the test of a row.
 use entry::Unary;
 use probe::Point;
 use simd::AtomSlot;
+ghost use mathlib.Core.Path.{_≡_};
 ghost use mathlib.Core.List.{[], _∷_};
-ghost use Prim.Native.Nat.{_<_};
+ghost use Prim.Native.Nat.{_^_, _≤_, _<_};
 ghost use lib.ListN.{length};
 ghost use Rattle.expr.specs.declared.Token.the-variants.{Not, Neg};
 ghost use Rattle.atoms.specs.Bank.{turn};
 ghost use Rattle.atoms.specs.Stock.{bankOf};
 ghost use Rattle.atoms.specs.Facts.{baseOf, beforeTurn};
 ghost use Rattle.pool.specs.Pool.{arrays, Ready};
+ghost use Rattle.bank.specs.Build.{reaches};
 ghost use Rattle.bank.specs.Phases.{Asked, Holding, Phase, Fits, turnedOf};
+
+// Whether one of the row's words is not below 2^w.
+pub fn row_reaches(row: [u64; 16], w: u32) -> bool
+    requires { ⌜ w ≤ 64 ⌝ }
+    ensures { λ r. ⌜ r ≡ reaches (2 ^ w) row ⌝ }
+{
+    let mask = arith::bitmask(w);
+    let mut i: usize = 0;
+    while i < simd::ROW_WORDS {
+        if mask < row[i] {
+            return true;
+        }
+        i += 1;
+    }
+    false
+}
 
 // The stock into an empty bank: the count.
 fn push_stock(

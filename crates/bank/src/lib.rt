@@ -59,22 +59,6 @@ fn too_small(s: Sizes) -> bool
     s.work < WORK_WORDS
 }
 
-// Whether one of the row's words is not below 2^w.
-fn row_reaches(row: [u64; 16], w: u32) -> bool
-    requires { ⌜ w ≤ 64 ⌝ }
-    ensures { λ r. ⌜ r ≡ reaches (2 ^ w) row ⌝ }
-{
-    let mask = arith::bitmask(w);
-    let mut i: usize = 0;
-    while i < ROW_WORDS {
-        if mask < row[i] {
-            return true;
-        }
-        i += 1;
-    }
-    false
-}
-
 // Whether one of the first nv words of a point is not below 2^w.
 fn point_reaches(p: Point, nv: usize, w: u32) -> bool
     requires { ⌜ (nv ≤ 6) × (w ≤ 64) ⌝ }
@@ -122,7 +106,7 @@ pub fn bank_refusal(nv: u32, w: u32, points: [Point; 16], target: [u64; 16], siz
     if points_reach(points, nv as usize, w) {
         return 5;
     }
-    if row_reaches(target, w) {
+    if inner::row_reaches(target, w) {
         return 5;
     }
     0
@@ -181,7 +165,7 @@ pub fn find_row(w: u32, count: usize, rows: &[u64], row: [u64; 16]) -> FoundRow
     if rows.len() / ROW_WORDS < count {
         return FoundRow::Refused(4);
     }
-    if row_reaches(row, w) {
+    if inner::row_reaches(row, w) {
         return FoundRow::Refused(5);
     }
     if ATOMS_MAX < count {

@@ -47,7 +47,7 @@ fn digest_bytes(s: &[u8], n: usize) -> u64 {
     h
 }
 
-fn digest_halves(s: &[u32], n: usize) -> u64 {
+pub fn digest_halves(s: &[u32], n: usize) -> u64 {
     let mut h = DIGEST;
     let mut i: usize = 0;
     while i < n {
@@ -57,7 +57,7 @@ fn digest_halves(s: &[u32], n: usize) -> u64 {
     h
 }
 
-fn digest_words(s: &[u64], n: usize) -> u64 {
+pub fn digest_words(s: &[u64], n: usize) -> u64 {
     let mut h = DIGEST;
     let mut i: usize = 0;
     while i < n {
@@ -81,7 +81,7 @@ fn point_at(line: &[u64], base: usize, nv: usize) -> Point
 }
 
 // Sixteen points from place 3 on, each of `stride` words.
-fn points_at(line: &[u64], stride: usize) -> [Point; 16]
+pub fn points_at(line: &[u64], stride: usize) -> [Point; 16]
     requires { ⌜ stride ≤ 6 ⌝ }
 {
     let mut points = [Point { words: [0; 6] }; 16];
@@ -96,7 +96,7 @@ fn points_at(line: &[u64], stride: usize) -> [Point; 16]
     points
 }
 
-fn target_at(line: &[u64], base: usize) -> [u64; 16]
+pub fn target_at(line: &[u64], base: usize) -> [u64; 16]
     requires { ⌜ base ≤ 1000 ⌝ }
 {
     let mut row = [0u64; 16];
@@ -187,7 +187,7 @@ fn numbers_are(line: &[u64], at: usize, n: usize, costs: &[u32], rows: &[u64]) -
 }
 
 // The atoms of an answer, at most 479; 0 where it is refused.
-fn count_of(r: BankAnswer) -> usize
+pub fn count_of(r: BankAnswer) -> usize
     ensures { λ r. ⌜ r ≤ 479 ⌝ }
 {
     match r {

@@ -1,6 +1,7 @@
 // One line of a data file against our own answer. The first number is the kind; the head of each data file tells what follows.
 use crate::banks;
 use crate::formulas;
+use crate::indexes;
 use simd::Gate;
 use simd::Match;
 use simd::RowAnswer;
@@ -26,6 +27,8 @@ pub fn line_same(line: &[u64]) -> bool {
         10 => formulas::refusal_same(line),
         11 => banks::bank_same(line),
         12 => banks::bank_refusal_same(line),
+        13 => indexes::index_same(line),
+        14 => indexes::index_refusal_same(line),
         _ => false,
     }
 }

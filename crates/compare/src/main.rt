@@ -3,6 +3,7 @@
 mod banks;
 mod check;
 mod formulas;
+mod indexes;
 mod scan;
 
 use scan::Scan;

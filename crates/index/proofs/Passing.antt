@@ -1,34 +1,16 @@
 -- Laws of the refusals of a build: what is known where none applies. Assumes nothing.
-use mathlib.Core.Path.{_≡_, refl, sym}
-use mathlib.Core.Bool.{Bool, true, false, _||_}
-use Prim.Native.Nat.{ℕ, _+_, _*_, _/_, _≤_, _<_}
-use native.Mathlib.Nat.{div-lt-iff-lt-mul, mul-comm}
+use mathlib.Core.Path.{_≡_}
+use mathlib.Core.Bool.{Bool, false, _||_}
+use Prim.Native.Nat.{ℕ, _+_, _*_, _/_, _≤_}
 use native.Mathlib.Omega.{arith}
 use borrow.Author.Tests.{ltb-false}
 use lib.Dec.{ltb}
-use Rattle.arith.specs.Refusal.{refuse, badWidth}
-use Rattle.arith.proofs.Refusals.{within}
+use Rattle.arith.specs.Refusal.{badWidth}
+use Rattle.arith.proofs.Refusals.{within, passed, neither, enough}
 use Rattle.index.specs.Build.{atomsMax, limitMax, tooShort, refusalOf}
-use Rattle.arith.proofs.Lists.{false-true}
 
 pub or-last : {a b c d : Bool} (e : Bool) → a ≡ false → b ≡ false → c ≡ false → d ≡ false → e ≡ (a || (b || (c || (d || e))))
 or-last e p q r s = rw (p, q, r, s)
-
--- a test that did not refuse, and the rest of the row
-passed : (b : Bool) (number rest : ℕ) → 0 < number → refuse b number rest ≡ 0 → (b ≡ false) × (rest ≡ 0)
-passed true number rest h e = absurd (omega arith)
-passed false number rest h e = (refl, e)
-
-neither : (a b : Bool) → (a || b) ≡ false → (a ≡ false) × (b ≡ false)
-neither true b e = absurd (false-true (sym e))
-neither false b e = (refl, e)
-
--- a length that is enough
-enough : (s n k : ℕ) → 0 < s → ltb (n / s) k ≡ false → s * k ≤ n
-enough s n k h e = elim (native.Mathlib.Decide.decLt n (k * s)) [
-  | yes l ↦ absurd (omega (arith, ltb-false (n / s) k e, div-lt-iff-lt-mul {k = s} {x = n} {y = k} h .1 l))
-  | no m ↦ omega (arith, mul-comm k s)
-]
 
 pub record Passed (w count L rows pairs pairRows order work : ℕ) : Type 0 where
   pub width : w ≤ 64

@@ -1,14 +1,14 @@
 -- Laws of a whole build: it starts ready, what all trials leave is the index with its order list, and what the answer says. Assumes nothing.
 use mathlib.Core.Path.{_≡_, refl, sym, ap, ap₂, _∙_, subst}
-use mathlib.Core.Bool.{Bool, false, cond}
+use mathlib.Core.Bool.{Bool, false}
 use mathlib.Core.List.{List, _++_}
-use Prim.Native.Nat.{ℕ, _+_, _*_, _^_, _≤_, _<_}
+use Prim.Native.Nat.{ℕ, _*_, _^_, _≤_, _<_}
 use native.Mathlib.Omega.{arith}
-use borrow.Author.Tests.{lt-ltb, le-ltb}
 use lib.ListN.{length, getD, take, drop, take-append-drop}
 use lib.Seq.{getD-take}
 use Rattle.arith.specs.Parts.{encode}
-use Rattle.arith.specs.Refusal.{unlessRefused, refused, answer}
+use Rattle.arith.specs.Refusal.{refused, answer}
+use Rattle.arith.proofs.Refusals.{unless-refused, unless-not}
 use Rattle.order.specs.Order.{firstWord, orderOf}
 use Rattle.order.proofs.OrderLaws.{order-same}
 use Rattle.index.specs.declared.inner.Job.{Job}
@@ -80,12 +80,6 @@ module _ (w count limit bits : ℕ) (rows pairs listed order work′ pairs′ li
       first s h = sym (ap (λ (z : List ℕ). getD z (16 * s) 0) flat ∙ getD-take (16 * r .pairs) listed′ (16 * s) 0 (omega arith))
 
 -- ---- the answer
-unless-refused : {A : Type 0} (n : ℕ) (a b : A) → 0 < n → unlessRefused n a b ≡ b
-unless-refused n a b h = ap (λ (t : Bool). cond t b a) (lt-ltb 0 n h)
-
-unless-not : {A : Type 0} (n : ℕ) (a b : A) → n ≡ 0 → unlessRefused n a b ≡ a
-unless-not n a b h = ap (λ (t : Bool). cond t b a) (le-ltb 0 n (omega arith))
-
 module _ (w count : ℕ) (rows : List ℕ) (L : ℕ) (old : Arrays) where
   abbrev number : ℕ
   number = indexRefusal w count rows L old

@@ -7,7 +7,8 @@ use lib.ListN.{length, getD, take, drop}
 use lib.Seq.{length-take-le, getD-take}
 use Rattle.arith.specs.Word.{modulus}
 use Rattle.bank.specs.Build.{reaches}
-use Rattle.bank.proofs.Reaching.{mask-lt, mask-le, reaches-here, reaches-later, reaches-none}
+use Rattle.arith.proofs.Remainders.{mask-lt, mask-le}
+use Rattle.bank.proofs.Reaching.{reaches-here, reaches-later, reaches-none}
 use Rattle.bank.proofs.point_reaches.Statement.{statement}
 use Rattle.bank.proofs.point_reaches.Tie as tie
 

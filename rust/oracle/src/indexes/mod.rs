@@ -20,10 +20,10 @@ const HEAD: [&str; 15] = [
     "  14 W COUNT ROWSLEN LIMIT PAIRSLEN PAIRROWSLEN ORDERLEN WORKLEN REFUSAL",
     "      Width, claimed atoms, length of the bank's rows, limit, and how long the lent arrays are. Not asked of the Rust:",
     "      the refusal is the specification's for the index build (least that applies; 0: not refused), 2, 3, 4 or 7.",
-    "The first lines of kind 13 are over the banks of the specification's P1 and P2 (at width 2 that is P3: 36 pairs in all),",
-    "then over the bank of the difference D1 (docs/DIFFERENCES.md). After them come banks whose index is small, each with",
-    "several limits; banks of all styles at every width; and banks whose index is built at another width than they are,",
-    "where row words may reach 2^W2.",
+    "The first lines of kind 13 are over the banks of the specification's P1 and P2 (at width 2 that is P3: 36 pairs in all;",
+    "the digests where LIMIT is 1 are those of its first pair, 0 1 6, and its row, 1 0 1 0 four times), then over the bank of",
+    "the difference D1 (docs/DIFFERENCES.md). After them come banks whose index is small, each with several limits; banks of",
+    "all styles at every width; and banks whose index is built at another width than they are, where row words may reach 2^W2.",
 ];
 
 /// The whole file.

@@ -1,4 +1,4 @@
--- `bank::row_reaches` meets its contract: the words passed are below 2 ^ w. Assumes nothing.
+-- `bank::inner::row_reaches` meets its contract: the words passed are below 2 ^ w. Assumes nothing.
 use mathlib.Core.Path.{_≡_, refl, sym, _∙_}
 use Prim.Native.Nat.{_-_, _^_, _≤_}
 use native.Mathlib.Omega.{arith}
@@ -6,9 +6,10 @@ use borrow.Author.Needs.{needs}
 use lib.ListN.{drop}
 use Rattle.arith.specs.Word.{modulus}
 use Rattle.bank.specs.Build.{reaches}
-use Rattle.bank.proofs.Reaching.{mask-lt, mask-le, reaches-here, reaches-later, reaches-none}
-use Rattle.bank.proofs.row_reaches.Statement.{statement}
-use Rattle.bank.proofs.row_reaches.Tie as tie
+use Rattle.arith.proofs.Remainders.{mask-lt, mask-le}
+use Rattle.bank.proofs.Reaching.{reaches-here, reaches-later, reaches-none}
+use Rattle.bank.proofs.inner.row_reaches.Statement.{statement}
+use Rattle.bank.proofs.inner.row_reaches.Tie as tie
 
 abbrev Inv-loop : tie.InvT-loop
 Inv-loop w row mask i₀ i = (i ≤ 16) × ((mask ≡ modulus w - 1) × (reaches (2 ^ w) (drop i row) ≡ reaches (2 ^ w) row))

@@ -1,0 +1,3 @@
+-- The laws of this crate.
+mod Words
+mod Readings

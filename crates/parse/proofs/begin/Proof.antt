@@ -1,0 +1,11 @@
+-- Nothing is done and no word is begun, so the text is all rest.
+use mathlib.Core.Path.{refl}
+use Rattle.parse.proofs.Readings.{begun}
+use Rattle.parse.proofs.begin.Statement.{statement}
+use Rattle.parse.proofs.begin.Tie as tie
+
+returns : tie.Need-returns
+returns c = begun _ refl refl refl refl refl
+
+pub begin-spec : {M : Type 1} → statement M
+begin-spec = tie.close (tie.spec returns)

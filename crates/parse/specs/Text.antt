@@ -1,0 +1,74 @@
+-- The numbers of a text, from the whole of it. A text is a list of bytes, of any length. Assumes nothing.
+use mathlib.Core.Bool.{Bool, true, false, _&&_, _||_, cond}
+use mathlib.Core.List.{List, [], _∷_, _++_}
+use mathlib.Core.Option.{Option, none, some}
+use Prim.Native.Nat.{ℕ, _+_, _-_, _*_, _^_}
+use lib.Dec.{eqb, leb, ltb}
+use lib.ListN.{length}
+
+-- 01, Turned back, 9: bytes 32, 10 or 13
+abbrev pub isParting : ℕ → Bool
+isParting b = eqb b 32 || (eqb b 10 || eqb b 13)
+
+-- 01, Turned back, 9: decimals
+abbrev pub isDigit : ℕ → Bool
+isDigit b = leb 48 b && leb b 57
+
+-- a word before other words; an empty one is none. 01: parted by one or more bytes, parting bytes may also come first and last
+unfoldable pub withWord : List ℕ → List (List ℕ) → List (List ℕ)
+withWord [] words = words
+withWord (b ∷ word) words = (b ∷ word) ∷ words
+
+-- the words of a text that is begun with `word`
+unfoldable pub wordsAfter : List ℕ → List ℕ → List (List ℕ)
+unfolding withWord
+wordsAfter word [] = withWord word []
+wordsAfter word (b ∷ text) = cond (isParting b) (withWord word (wordsAfter [] text)) (wordsAfter (word ++ (b ∷ [])) text)
+
+-- what stands between parting bytes
+unfoldable pub wordsOf : List ℕ → List (List ℕ)
+unfolding wordsAfter
+wordsOf text = wordsAfter [] text
+
+unfoldable pub allDigits : List ℕ → Bool
+allDigits [] = true
+allDigits (b ∷ word) = isDigit b && allDigits word
+
+-- digits, the most significant first, after those of v; leading zeros are allowed
+unfoldable pub valueAfter : ℕ → List ℕ → ℕ
+valueAfter v [] = v
+valueAfter v (b ∷ word) = valueAfter (v * 10 + (b - 48)) word
+
+unfoldable pub valueOf : List ℕ → ℕ
+unfolding valueAfter
+valueOf word = valueAfter 0 word
+
+-- 01, Turned back, 9: unsigned decimals below 2^64
+unfoldable pub isNumber : List ℕ → Bool
+unfolding allDigits valueOf
+isNumber word = allDigits word && ltb (valueOf word) (2 ^ 64)
+
+unfoldable pub before : ℕ → Option (List ℕ) → Option (List ℕ)
+before n none = none
+before n (some ns) = some (n ∷ ns)
+
+-- the words as numbers, none if one of them isn't
+unfoldable pub numbersOf : List (List ℕ) → Option (List ℕ)
+unfolding isNumber before
+numbersOf [] = some []
+numbersOf (word ∷ words) = cond (isNumber word) (before (valueOf word) (numbersOf words)) none
+
+-- 01, Turned back, 9: exactly 19 + 16 × (first number) of them
+unfoldable pub rightMany : List ℕ → Bool
+rightMany [] = false
+rightMany (n ∷ ns) = eqb (length (n ∷ ns)) (19 + 16 * n)
+
+unfoldable pub ifRight : Option (List ℕ) → Option (List ℕ)
+unfolding rightMany
+ifRight none = none
+ifRight (some ns) = cond (rightMany ns) (some ns) none
+
+-- the numbers of a text that 9 doesn't turn back, none of one that it does
+unfoldable pub readText : List ℕ → Option (List ℕ)
+unfolding wordsOf numbersOf ifRight
+readText text = ifRight (numbersOf (wordsOf text))

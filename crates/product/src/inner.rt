@@ -1,0 +1,302 @@
+// What the product search calls with rows, counts and an order list that it has tested.
+use filter::inner::Residue;
+use simd::AtomSlot;
+use simd::PairSlot;
+use solve::inner::Solution;
+ghost use mathlib.Core.Path.{_≡_};
+ghost use mathlib.Core.List.{List};
+ghost use Prim.Native.Nat.{ℕ, _+_, _*_, _≤_, _<_};
+ghost use lib.ListN.{length, take, getD};
+ghost use Rattle.arith.specs.Lists.{countUp, firstThat};
+ghost use Rattle.order.specs.Order.{firstWord};
+ghost use Rattle.filter.specs.Places.{Ordered, Sampled};
+ghost use Rattle.filter.specs.Sweeps.{Small};
+ghost use Rattle.product.specs.Trying.{fitting, slotsFor, withAtoms, withPairs, tryEverything};
+ghost use Rattle.product.specs.Stages.{Lent, foundSays};
+ghost use Rattle.product.specs.Steps.{fitsAt, Target, FirstWords, Narrows, atomSays, pairSays};
+
+// The first product that fits.
+pub enum Found {
+    Atoms(AtomSlot, AtomSlot),
+    AtomPair(AtomSlot, PairSlot),
+    Nothing,
+}
+
+// The first atom that fits another.
+enum AtomFit {
+    At(AtomSlot),
+    Nothing,
+}
+
+// The first listed pair that fits an atom.
+enum PairFit {
+    At(PairSlot),
+    Nothing,
+}
+
+// The most atoms of a bank.
+const ATOMS_MAX: usize = 479;
+
+// One sample of each sixteen pairs.
+const SAMPLES_MAX: usize = 16384;
+
+// With no more pairs than these, the samples cost more than they save.
+const UNSAMPLED_MAX: usize = 4096;
+
+// Whether row a of xs times row b of ys is the target. Stops at the first word that isn't.
+fn fits(xs: &[u64], a: usize, ys: &[u64], b: usize, target: &[u64], w: u32) -> bool
+    requires { ⌜ (16 * a + 16 ≤ length (now xs)) × (16 * b + 16 ≤ length (now ys)) × Target w (now target) ⌝ }
+    ensures { λ r. ⌜ r ≡ fitsAt w (now (target .entry)) (now (xs .entry)) a (now (ys .entry)) b ⌝ }
+{
+    let x = simd::ROW_WORDS * a;
+    let y = simd::ROW_WORDS * b;
+    let mut j: usize = 0;
+    while j < simd::ROW_WORDS {
+        if arith::mod_mul(xs[x + j], ys[y + j], w) != target[j] {
+            return false;
+        }
+        j += 1;
+    }
+    true
+}
+
+// Copies the first words of the atoms' rows, to have them side by side.
+fn copy_firsts(firsts: &mut [u64], atoms: &[u64], count: usize)
+    requires { ⌜ (count ≤ length (now firsts)) × (16 * count ≤ length (now atoms)) ⌝ }
+    ensures { λ _. ⌜ FirstWords (now (atoms .entry)) count (now (firsts .exit)) ⌝ }
+{
+    let mut k: usize = 0;
+    while k < count {
+        firsts[k] = atoms[simd::ROW_WORDS * k];
+        k += 1;
+    }
+}
+
+// The first atom, ascending, that fits atom a. The first words sort out most.
+fn first_atom(
+    firsts: &[u64],
+    atoms: &[u64],
+    a: usize,
+    count: usize,
+    target: &[u64],
+    w: u32,
+) -> AtomFit
+    requires { ⌜ FirstWords (now atoms) count (now firsts) × (a < count) × (count ≤ 479) × (16 * count ≤ length (now atoms)) × Target w (now target) ⌝ }
+    ensures { λ r. ⌜ atomSays r ≡ firstThat (fitsAt w (now (target .entry)) (now (atoms .entry)) a (now (atoms .entry))) (countUp 0 count) ⌝ }
+{
+    let p = firsts[a];
+    let t = target[0];
+    let mut b: usize = 0;
+    while b < count {
+        if arith::mod_mul(p, firsts[b], w) == t {
+            if fits(atoms, a, atoms, b, target, w) {
+                let slot = b as u32;
+                return AtomFit::At(AtomSlot(slot));
+            }
+        }
+        b += 1;
+    }
+    AtomFit::Nothing
+}
+
+// The first listed pair, by the order list, that fits atom a: none does but those of the class.
+fn first_of_class(
+    atoms: &[u64],
+    a: usize,
+    listed: &[u64],
+    slots: &[u32],
+    n: usize,
+    samples: &[u64],
+    m: usize,
+    class: Residue,
+    target: &[u64],
+    w: u32,
+) -> PairFit
+    requires { ⌜ Ordered n (now listed) (now slots) × Sampled n (now listed) (now slots) (now samples) m × Small class × Narrows w (now target) (now atoms) a (now listed) class × (16 * a + 16 ≤ length (now atoms)) × Target w (now target) ⌝ }
+    ensures { λ r. ⌜ pairSays r ≡ firstThat (fitsAt w (now (target .entry)) (now (atoms .entry)) a (now (listed .entry))) (take n (now (slots .entry))) ⌝ }
+{
+    let mut place = filter::inner::first_place(listed, slots, n, samples, m, class);
+    while place.at < n {
+        let at = place.at;
+        let slot = slots[at];
+        if fits(atoms, a, listed, slot as usize, target, w) {
+            return PairFit::At(PairSlot(slot));
+        }
+        place = filter::inner::next_place(listed, slots, n, samples, m, class, place);
+    }
+    PairFit::Nothing
+}
+
+// The first listed pair, by slot, that fits atom a.
+fn first_by_slot(
+    atoms: &[u64],
+    a: usize,
+    listed: &[u64],
+    n: usize,
+    target: &[u64],
+    w: u32,
+) -> PairFit
+    requires { ⌜ (16 * a + 16 ≤ length (now atoms)) × (n ≤ 262144) × (16 * n ≤ length (now listed)) × Target w (now target) ⌝ }
+    ensures { λ r. ⌜ pairSays r ≡ firstThat (fitsAt w (now (target .entry)) (now (atoms .entry)) a (now (listed .entry))) (countUp 0 n) ⌝ }
+{
+    let mut s: usize = 0;
+    while s < n {
+        if fits(atoms, a, listed, s, target, w) {
+            let slot = s as u32;
+            return PairFit::At(PairSlot(slot));
+        }
+        s += 1;
+    }
+    PairFit::Nothing
+}
+
+// The first listed pair, in the order in which they are tried with atom a, that fits it.
+fn first_pair(
+    atoms: &[u64],
+    a: usize,
+    listed: &[u64],
+    slots: &[u32],
+    n: usize,
+    samples: &[u64],
+    m: usize,
+    target: &[u64],
+    w: u32,
+) -> PairFit
+    requires { ⌜ Ordered n (now listed) (now slots) × Sampled n (now listed) (now slots) (now samples) m × (16 * a + 16 ≤ length (now atoms)) × Target w (now target) ⌝ }
+    ensures { λ r. ⌜ pairSays r ≡ firstThat (fitsAt w (now (target .entry)) (now (atoms .entry)) a (now (listed .entry))) (slotsFor w (firstWord (now (atoms .entry)) a) (getD (now (target .entry)) 0 0) n (now (listed .entry))) ⌝ }
+{
+    let p = arith::reduce(atoms[simd::ROW_WORDS * a], w);
+    let t = target[0];
+    if solve::inner::is_used(p, t) {
+        let solution = solve::inner::solve(w, p, t);
+        match solution {
+            Solution::Class { bits, first } => {
+                let class = Residue { w, bits, first };
+                return first_of_class(atoms, a, listed, slots, n, samples, m, class, target, w);
+            }
+            Solution::Nothing => {
+                return PairFit::Nothing;
+            }
+        }
+    }
+    first_by_slot(atoms, a, listed, n, target, w)
+}
+
+// Every atom with every atom, both ascending.
+fn search_atoms(firsts: &[u64], atoms: &[u64], count: usize, target: &[u64], w: u32) -> Found
+    requires { ⌜ FirstWords (now atoms) count (now firsts) × (count ≤ 479) × (16 * count ≤ length (now atoms)) × Target w (now target) ⌝ }
+    ensures { λ r. ⌜ ((listed : List ℕ) → foundSays r ≡ firstThat (fitting w (now (atoms .entry)) listed (now (target .entry))) (withAtoms count)) ⌝ }
+{
+    let mut a: usize = 0;
+    while a < count {
+        let fit = first_atom(firsts, atoms, a, count, target, w);
+        let slot = a as u32;
+        a += 1;
+        match fit {
+            AtomFit::At(b) => {
+                return Found::Atoms(AtomSlot(slot), b);
+            }
+            AtomFit::Nothing => {}
+        }
+    }
+    Found::Nothing
+}
+
+// Every atom, ascending, with every listed pair. m samples narrow each look-up in the order list.
+fn search_pairs(
+    atoms: &[u64],
+    count: usize,
+    listed: &[u64],
+    slots: &[u32],
+    n: usize,
+    samples: &[u64],
+    m: usize,
+    target: &[u64],
+    w: u32,
+) -> Found
+    requires { ⌜ Lent w count (now atoms) n (now listed) (now slots) (now target) × Sampled n (now listed) (now slots) (now samples) m ⌝ }
+    ensures { λ r. ⌜ foundSays r ≡ firstThat (fitting w (now (atoms .entry)) (now (listed .entry)) (now (target .entry))) (withPairs w count (now (atoms .entry)) n (now (listed .entry)) (now (target .entry))) ⌝ }
+{
+    let mut a: usize = 0;
+    while a < count {
+        let fit = first_pair(atoms, a, listed, slots, n, samples, m, target, w);
+        let slot = a as u32;
+        a += 1;
+        match fit {
+            PairFit::At(s) => {
+                return Found::AtomPair(AtomSlot(slot), s);
+            }
+            PairFit::Nothing => {}
+        }
+    }
+    Found::Nothing
+}
+
+// The first stage.
+fn two_atoms(atoms: &[u64], count: usize, target: &[u64], w: u32) -> Found
+    requires { ⌜ (count ≤ 479) × (16 * count ≤ length (now atoms)) × Target w (now target) ⌝ }
+    ensures { λ r. ⌜ ((listed : List ℕ) → foundSays r ≡ firstThat (fitting w (now (atoms .entry)) listed (now (target .entry))) (withAtoms count)) ⌝ }
+{
+    let mut firsts: [u64; ATOMS_MAX] = [0; ATOMS_MAX];
+    copy_firsts(&mut firsts, atoms, count);
+    search_atoms(&firsts, atoms, count, target, w)
+}
+
+// The second stage, with samples.
+fn sampled_pairs(
+    atoms: &[u64],
+    count: usize,
+    listed: &[u64],
+    slots: &[u32],
+    n: usize,
+    target: &[u64],
+    w: u32,
+) -> Found
+    requires { ⌜ Lent w count (now atoms) n (now listed) (now slots) (now target) ⌝ }
+    ensures { λ r. ⌜ foundSays r ≡ firstThat (fitting w (now (atoms .entry)) (now (listed .entry)) (now (target .entry))) (withPairs w count (now (atoms .entry)) n (now (listed .entry)) (now (target .entry))) ⌝ }
+{
+    let mut samples: [u64; SAMPLES_MAX] = [0; SAMPLES_MAX];
+    let m = filter::inner::sample(&mut samples, listed, slots, n);
+    search_pairs(atoms, count, listed, slots, n, &samples, m, target, w)
+}
+
+// The second stage. Few pairs are searched with no samples.
+fn atom_and_pair(
+    atoms: &[u64],
+    count: usize,
+    listed: &[u64],
+    slots: &[u32],
+    n: usize,
+    target: &[u64],
+    w: u32,
+) -> Found
+    requires { ⌜ Lent w count (now atoms) n (now listed) (now slots) (now target) ⌝ }
+    ensures { λ r. ⌜ foundSays r ≡ firstThat (fitting w (now (atoms .entry)) (now (listed .entry)) (now (target .entry))) (withPairs w count (now (atoms .entry)) n (now (listed .entry)) (now (target .entry))) ⌝ }
+{
+    if n > UNSAMPLED_MAX {
+        return sampled_pairs(atoms, count, listed, slots, n, target, w);
+    }
+    let none: [u64; 1] = [0; 1];
+    search_pairs(atoms, count, listed, slots, n, &none, 0, target, w)
+}
+
+// Both stages: two atoms first, then an atom and a listed pair.
+pub fn search_rows(
+    atoms: &[u64],
+    count: usize,
+    listed: &[u64],
+    slots: &[u32],
+    n: usize,
+    target: &[u64],
+    w: u32,
+) -> Found
+    requires { ⌜ Lent w count (now atoms) n (now listed) (now slots) (now target) ⌝ }
+    ensures { λ r. ⌜ foundSays r ≡ tryEverything w count (now (atoms .entry)) n (now (listed .entry)) (now (target .entry)) ⌝ }
+{
+    let found = two_atoms(atoms, count, target, w);
+    match found {
+        Found::Nothing => atom_and_pair(atoms, count, listed, slots, n, target, w),
+        Found::Atoms(a, b) => Found::Atoms(a, b),
+        Found::AtomPair(a, s) => Found::AtomPair(a, s),
+    }
+}

@@ -1,0 +1,5 @@
+-- The laws of this crate.
+pub mod Passing
+pub mod Trials
+pub mod OwnPairs
+pub mod Nothing

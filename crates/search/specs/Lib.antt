@@ -1,0 +1,3 @@
+-- What the contract of the product search cites, and demand 3. Read `product`'s Trying, then Answer, then Demand.
+pub mod Answer
+pub mod Demand
