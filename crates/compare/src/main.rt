@@ -5,6 +5,7 @@ mod check;
 mod formulas;
 mod indexes;
 mod scan;
+mod searches;
 
 use scan::Scan;
 ghost use Prim.Native.Nat.{_≤_};
