@@ -50,7 +50,7 @@ slice-aggregate-print-listing-5 : tie.Need-slice-aggregate-print-listing-5
 slice-aggregate-print-listing-5 c = search needs
 
 print-listing-requires : tie.Need-print-listing-requires
-print-listing-requires c κs = search needs
+print-listing-requires c κs = (c .before .before .before .before .before .before .before .before .before .before .before .before .before .before .before .build-both .ensures .shown, c .before .before .before .before .before .before .before .before .before .before .before .before .before .before .before .before .before .before .before .before .before .before .before .before .before .before .pre .1)
 
 same-length : tie.Need-same-length
 same-length c = search needs
