@@ -1,10 +1,10 @@
 //! Prints what the original Rust of binsnake/cobra answers, as data files for the program that compares.
 //!
 //! In rust/: `COBRA_SRC=<checkout of binsnake/cobra at 72ea8c3334> cargo run --release -p oracle -- probe`, with the
-//! checkout's full path. The subcommands `probe`, `formulas`, `banks` and `indexes` each print the data file of that name of
-//! crates/compare/data; `differences` prints where the originals' search differs from the specification, for a reader. The
-//! same sources give the same bytes. src/lib.rs tells how the originals get in; build.rs brings
-//! them. (`cargo fmt` does not find src/access, which build.rs declares: format it by
+//! checkout's full path. The subcommands `probe`, `formulas`, `banks`, `indexes` and `searches` each print the data file of
+//! that name of crates/compare/data; `differences` prints where the originals' search differs from the specification, for a
+//! reader. The same sources give the same bytes. src/lib.rs tells how the originals get in; build.rs brings them.
+//! (`cargo fmt` does not find src/access, which build.rs declares: format it by
 //! `rustfmt --edition 2021 src/access/mod.rs`.)
 
 mod banks;
@@ -15,6 +15,7 @@ mod formulas;
 mod indexes;
 mod inputs;
 mod probe;
+mod searches;
 mod spec;
 
 use std::env;
@@ -27,9 +28,10 @@ fn main() -> ExitCode {
         ["formulas"] => print!("{}", formulas::data_file()),
         ["banks"] => print!("{}", banks::data_file()),
         ["indexes"] => print!("{}", indexes::data_file()),
+        ["searches"] => print!("{}", searches::data_file()),
         ["differences"] => differences::print(),
         _ => {
-            eprintln!("usage: oracle probe | formulas | banks | indexes | differences");
+            eprintln!("usage: oracle probe | formulas | banks | indexes | searches | differences");
             return ExitCode::from(2);
         }
     }

@@ -113,9 +113,7 @@ fn every_count(inputs: &mut Inputs) -> Vec<BankInput> {
     let mut all = Vec::new();
     for num_vars in 1..=6 {
         for width in [1, 2, 3, 3, 4, 5, 8, 64] {
-            let points = inputs.one_of(&POINT_STYLES);
-            let target = inputs.one_of(&TARGET_STYLES);
-            all.push(BankInput::new(inputs, num_vars, width, (points, target)));
+            all.push(BankInput::of_any_style(inputs, num_vars, width));
         }
     }
     all

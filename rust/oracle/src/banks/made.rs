@@ -8,6 +8,7 @@ use crate::spec::bank as spec;
 use crate::spec::search::product;
 
 /// What a bank is built from: points of one word for each variable, all words below 2^width.
+#[derive(Clone)]
 pub struct BankInput {
     pub num_vars: u32,
     pub width: u32,
@@ -25,6 +26,12 @@ impl BankInput {
             points,
             target,
         }
+    }
+
+    pub fn of_any_style(inputs: &mut Inputs, num_vars: u32, width: u32) -> Self {
+        let points = inputs.one_of(&POINT_STYLES);
+        let target = inputs.one_of(&TARGET_STYLES);
+        Self::new(inputs, num_vars, width, (points, target))
     }
 
     /// The input as a line has it.

@@ -4,24 +4,41 @@
 use oracle::access::{self, Formula, Row};
 
 use super::{Setting, PAIRS_MAX};
+use crate::banks::made::BankInput;
 use crate::inputs::{one_variable, repeated};
 use crate::spec::formulas::{CONSTANT, VARIABLE};
 use crate::spec::search::{self, Answer};
 
 /// An input of one variable: the bank's width, points and target (one word throughout), the width of index and search, the
 /// row searched for; then the specification's answer and the Rust's.
-struct Input {
+pub struct Input {
     name: &'static str,
     bank_width: u32,
     points: &'static [u64],
     bank_target: u64,
-    width: u32,
+    pub width: u32,
     target: &'static [u64],
-    answer: Answer,
-    rust: Option<(usize, usize)>,
+    pub answer: Answer,
+    pub rust: Option<(usize, usize)>,
 }
 
-const PRODUCT_LOOP: [Input; 4] = [
+impl Input {
+    pub fn bank(&self) -> BankInput {
+        BankInput {
+            num_vars: 1,
+            width: self.bank_width,
+            points: one_variable(self.points),
+            target: [self.bank_target; 16],
+        }
+    }
+
+    /// The row searched for.
+    pub fn row(&self) -> Row {
+        repeated(self.target)
+    }
+}
+
+pub const PRODUCT_LOOP: [Input; 4] = [
     Input {
         name: "D1, known",
         bank_width: 3,
@@ -64,7 +81,7 @@ const PRODUCT_LOOP: [Input; 4] = [
     },
 ];
 
-const FIRST_STAGE: [Input; 3] = [
+pub const FIRST_STAGE: [Input; 3] = [
     Input {
         name: "D2, known",
         bank_width: 2,
@@ -116,11 +133,8 @@ pub fn print() {
 
 /// Prints the input and the specification's answer.
 fn ask(input: &Input) -> (Setting, Row) {
-    let points = one_variable(input.points);
-    let bank_target = [input.bank_target; 16];
-    let atoms = access::bank(1, input.bank_width, &points, bank_target);
-    let setting = Setting::new(atoms, PAIRS_MAX, input.width);
-    let target = repeated(input.target);
+    let setting = Setting::new(input.bank().bank(), PAIRS_MAX, input.width);
+    let target = input.row();
     println!(
         "{}: bank of width {} at the points {:?}, bank target all {}: {} atoms; width {}: {} pairs; target {:?}",
         input.name,

@@ -4,7 +4,7 @@
 //! D1: the Rust's filter misses pairs whose first word is not below 2^w. That takes a bank of a greater width than the
 //! index and the search. D2: the Rust's first stage keeps the cheapest two atoms, the specification the first.
 
-mod known;
+pub mod known;
 mod random;
 mod smallest;
 
@@ -24,15 +24,15 @@ pub fn print() {
 }
 
 /// A bank with an index of its own, and the width of the index and of the search.
-struct Setting {
-    atoms: Vec<AtomView>,
-    rows: Vec<Row>,
-    index: IndexView,
-    width: u32,
+pub struct Setting {
+    pub atoms: Vec<AtomView>,
+    pub rows: Vec<Row>,
+    pub index: IndexView,
+    pub width: u32,
 }
 
 impl Setting {
-    fn new(atoms: Vec<AtomView>, limit: usize, width: u32) -> Self {
+    pub fn new(atoms: Vec<AtomView>, limit: usize, width: u32) -> Self {
         let rows: Vec<Row> = atoms.iter().map(|atom| atom.row).collect();
         let index = access::index(&rows, width, limit);
         Self {
@@ -43,7 +43,7 @@ impl Setting {
         }
     }
 
-    fn try_everything(&self, target: &Row) -> Answer {
+    pub fn try_everything(&self, target: &Row) -> Answer {
         search::try_everything(
             target,
             &self.rows,
@@ -53,7 +53,7 @@ impl Setting {
         )
     }
 
-    fn second_stage(&self, target: &Row) -> Option<(usize, usize)> {
+    pub fn second_stage(&self, target: &Row) -> Option<(usize, usize)> {
         search::second_stage(
             target,
             &self.rows,
@@ -63,11 +63,11 @@ impl Setting {
         )
     }
 
-    fn product_loop(&self, target: Row) -> Option<(usize, usize)> {
+    pub fn product_loop(&self, target: Row) -> Option<(usize, usize)> {
         access::product_loop(target, &self.rows, &self.index.rows, self.width)
     }
 
-    fn two_atoms(&self, target: Row) -> Option<(usize, usize)> {
+    pub fn two_atoms(&self, target: Row) -> Option<(usize, usize)> {
         access::two_atoms(target, &self.atoms, self.width)
     }
 

@@ -3,7 +3,7 @@
 use oracle::access::{self, Row};
 
 use super::ANSWERED;
-use crate::banks::made::{BankInput, Points, Target, POINT_STYLES, TARGET_STYLES};
+use crate::banks::made::{BankInput, Points, Target};
 use crate::data_file::DataFile;
 use crate::digest::digest;
 use crate::inputs::{one_variable, repeated, Inputs};
@@ -131,24 +131,18 @@ fn small(inputs: &mut Inputs) -> Vec<(IndexInput, Vec<usize>)> {
 fn small_bank(inputs: &mut Inputs, num_vars: u32) -> IndexInput {
     loop {
         let width = 1 + inputs.below(8) as u32;
-        let input = IndexInput::new(any_bank(inputs, num_vars, width), width);
+        let input = IndexInput::new(BankInput::of_any_style(inputs, num_vars, width), width);
         if matches!(input.all_pairs(LIMIT_MAX - 1), Some(1..)) {
             return input;
         }
     }
 }
 
-fn any_bank(inputs: &mut Inputs, num_vars: u32, width: u32) -> BankInput {
-    let points = inputs.one_of(&POINT_STYLES);
-    let target = inputs.one_of(&TARGET_STYLES);
-    BankInput::new(inputs, num_vars, width, (points, target))
-}
-
 /// The largest limit where the index is large, and here and there a small one.
 fn every_width(inputs: &mut Inputs) -> Vec<(IndexInput, Vec<usize>)> {
     let of_width = |width| {
         let num_vars = 1 + width % 6;
-        let input = IndexInput::new(any_bank(inputs, num_vars, width), width);
+        let input = IndexInput::new(BankInput::of_any_style(inputs, num_vars, width), width);
         let further = match width % 16 {
             0 => vec![0],
             5 => vec![1],
@@ -174,7 +168,7 @@ fn other_widths(inputs: &mut Inputs) -> Vec<(IndexInput, Vec<usize>)> {
             let bank = if turn < 2 && num_vars > 3 {
                 BankInput::new(inputs, num_vars, width, styles)
             } else {
-                any_bank(inputs, num_vars, width)
+                BankInput::of_any_style(inputs, num_vars, width)
             };
             let input = IndexInput::new(bank, index_width);
             let limits = input.limits(&[]);

@@ -4,5 +4,6 @@
 pub mod bank;
 pub mod formulas;
 pub mod index;
+pub mod lent;
 pub mod refusals;
 pub mod search;

@@ -8,6 +8,7 @@ pub const REFUSED_LENGTH: u64 = 4;
 pub const REFUSED_WORD: u64 = 5;
 pub const REFUSED_FORMULA: u64 = 6;
 pub const REFUSED_COUNT: u64 = 7;
+pub const REFUSED_ORDER: u64 = 8;
 
 /// The less of two refusals, where 0 is none.
 pub fn least(one: u64, other: u64) -> u64 {

@@ -17,7 +17,8 @@ pub fn fits(a: &Row, b: &Row, target: &Row, width: u32) -> bool {
     (0..16).all(|i| product_word(a[i], b[i], width) == target[i])
 }
 
-fn product_word(a: u64, b: u64, width: u32) -> u64 {
+/// a × b modulo 2^width.
+pub fn product_word(a: u64, b: u64, width: u32) -> u64 {
     let product = u128::from(a) * u128::from(b);
     (product & ((1 << width) - 1)) as u64
 }

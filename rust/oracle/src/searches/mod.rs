@@ -1,0 +1,104 @@
+//! The data file searches.txt: lists of candidates, product searches, and what both refuse.
+
+mod candidates;
+mod candidates_refused;
+mod products;
+mod products_refused;
+
+use crate::data_file::DataFile;
+use crate::spec::lent::Pairs;
+use crate::spec::refusals::{least, NONE};
+
+const CANDIDATES: u64 = 15;
+const PRODUCTS: u64 = 16;
+const PRODUCTS_REFUSED: u64 = 17;
+const CANDIDATES_REFUSED: u64 = 18;
+
+/// The most numbers of a line.
+const NUMBERS_MAX: usize = 500;
+/// The longest lent array of a refusal.
+const ARRAY_MAX: u64 = 8000;
+
+const BAD_WIDTHS: [u64; 5] = [0, 65, 66, 128, u32::MAX as u64];
+/// Widths with the least word that is too large.
+const TOO_LARGE: [(u32, u64); 4] = [(1, 2), (8, 256), (32, 1 << 32), (63, 1 << 63)];
+/// Counts that no array has; some are small when cut to fewer bits, or sixteen times them is.
+const HUGE: [u64; 5] = [1 << 32, (1 << 32) + 3, 1 << 60, (1 << 60) + 3, u64::MAX];
+
+const HEAD: [&str; 26] = [
+    "  15 W N WORDS.. ORDER.. P T ANSWER COUNT SLOTS..",
+    "      N pairs with these first words, their order list, and p and t. ANSWER: 0 used (collect_mul_probe0_candidates says",
+    "      true), 1 not used, 100 + r refused r; then the COUNT slots of the list, none unless used. The Rust's list comes in",
+    "      the specification's order. It lacks the slots whose words reach 2^W (docs/DIFFERENCES.md, D1): where there are",
+    "      such words, the answer is the specification's. The refusals (2, 5, 8) are the specification's.",
+    "  16 NV W POINTS.. TARGET.. W2 LIMIT ROW.. ANSWER A B",
+    "      16 points of NV words each and 16 target words, all below 2^W: of them the Rust's bank at width W. Over its rows",
+    "      the first LIMIT pairs of the Rust's index at width W2. ROW: 16 words below 2^W2, searched for at width W2.",
+    "      ANSWER: 0 nothing, 1 atoms A and B, 2 atom A and pair B. The answer is the specification's. The Rust's layer 1",
+    "      finds two atoms exactly if this one does, though maybe others (D2). Its product loop finds what the second stage of",
+    "      this one finds, unless that is a pair whose first word reaches 2^W2 (D1).",
+    "  17 W COUNT ATOMSLEN N LISTEDLEN ORDERLEN WORD SWAP REFUSAL",
+    "      Width, claimed atoms, length of their rows, claimed pairs, length of their rows, length of the order list. All row",
+    "      words are 0; the order list is 0, 1, 2 and so on, the first two exchanged if SWAP is 1. The target's last word is",
+    "      WORD, the others are 0. Not asked of the Rust: the refusal is the specification's for the product search (least",
+    "      that applies; 0: not refused), 2, 4, 5, 7 or 8.",
+    "  18 W N LISTEDLEN ORDERLEN LISTLEN P T SWAP REFUSAL",
+    "      The same for the candidates, with the length of the lent list.",
+    "The first lines of kind 15 are the specification's P5 to P8 (of P7 the 256 first words in two lines). After them come",
+    "every width, with p odd and even; p with 7, 8, 9 and more trailing zeros; p = 0; no pairs; 200 pairs; words that reach",
+    "2^W; then what is refused: wrong order lists, p or t too large, widths.",
+    "The first lines of kind 16 are over P2's bank, then D1 and D2. After them come banks whose index is small, banks of all",
+    "styles at every width, searches at another width than the bank's, and searches whose answer hangs on the order in which",
+    "the pairs are tried. The row is the product of two atoms or of an atom and a pair, such a product with one word changed",
+    "(the first, the sixteenth, any), any row, one word throughout, or zero. The limit is at most 500; some indexes are whole.",
+    "In lines of kinds 17 and 18 a lent array has at most 8,000 numbers.",
+];
+
+/// The whole file.
+pub fn data_file() -> String {
+    let mut file = DataFile::with_head("candidates and product searches", "searches", &HEAD);
+    candidates::lines(&mut file);
+    products::lines(&mut file);
+    products_refused::lines(&mut file);
+    candidates_refused::lines(&mut file);
+    file.into_text()
+}
+
+/// Pairs whose row words are all 0, and their order list, its first two entries exchanged if `swap` is 1.
+fn zero_pairs(count: u64, rows: u64, order: u64, swap: u64) -> Pairs {
+    let mut order: Vec<u64> = (0..order).collect();
+    if swap == 1 {
+        order.swap(0, 1);
+    }
+    Pairs {
+        count,
+        rows,
+        first_words: vec![0; rows as usize / 16],
+        order,
+    }
+}
+
+/// Something wrong, and what it alone is refused with.
+struct Fault<Handed> {
+    make: fn(&mut Handed),
+    refusal: u64,
+}
+
+/// What is good, made wrong by each two faults, each three, and all; with what it is refused with then.
+fn faulty<Handed: Clone>(good: &Handed, faults: &[Fault<Handed>]) -> Vec<(Handed, u64)> {
+    let mut all = Vec::new();
+    for count in [2, 3, faults.len() as u32] {
+        for members in (0u32..1 << faults.len()).filter(|set| set.count_ones() == count) {
+            let (mut handed, mut refusal) = (good.clone(), NONE);
+            for (_, fault) in (0..)
+                .zip(faults)
+                .filter(|(place, _)| members >> place & 1 == 1)
+            {
+                (fault.make)(&mut handed);
+                refusal = least(refusal, fault.refusal);
+            }
+            all.push((handed, refusal));
+        }
+    }
+    all
+}

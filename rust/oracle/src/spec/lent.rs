@@ -1,0 +1,151 @@
+//! What is handed to the candidates and to the product search, good or not.
+
+use oracle::access::Row;
+
+use super::bank::ATOMS_MAX;
+use super::index::PAIRS_MAX;
+use super::refusals::{
+    NONE, REFUSED_COUNT, REFUSED_LENGTH, REFUSED_ORDER, REFUSED_WIDTH, REFUSED_WORD,
+};
+use super::search::order_list;
+
+/// The listed pairs.
+#[derive(Clone)]
+pub struct Pairs {
+    /// How many are claimed.
+    pub count: u64,
+    /// How many row words are lent; `first_words` has that of each whole row.
+    pub rows: u64,
+    pub first_words: Vec<u64>,
+    pub order: Vec<u64>,
+}
+
+impl Pairs {
+    fn is_array_short(&self) -> bool {
+        is_short(self.rows, 16, self.count) || is_short(self.order.len() as u64, 1, self.count)
+    }
+
+    /// The order list, for arrays that are long enough: all slots, strictly ascending by (first row word, slot).
+    fn is_ordered(&self) -> bool {
+        let words = &self.first_words[..self.count as usize];
+        let order = &self.order[..self.count as usize];
+        let expected = order_list(words).into_iter().map(|slot| slot as u64);
+        let ordered = expected.eq(order.iter().copied());
+        assert_eq!(ordered, is_ascending(words, order));
+        ordered
+    }
+}
+
+fn is_short(length: u64, stride: u128, count: u64) -> bool {
+    u128::from(length) < stride * u128::from(count)
+}
+
+/// The same by neighbours: as many slots as words, each below their number and above the one before it.
+fn is_ascending(words: &[u64], order: &[u64]) -> bool {
+    let key = |&slot: &u64| words.get(slot as usize).map(|&word| (word, slot));
+    let keys: Option<Vec<(u64, u64)>> = order.iter().map(key).collect();
+    keys.is_some_and(|keys| keys.windows(2).all(|two| two[0] < two[1]))
+}
+
+/// What is handed to `collect_mul_probe0_candidates`; of the lent list its length.
+#[derive(Clone)]
+pub struct Candidates {
+    pub width: u64,
+    pub pairs: Pairs,
+    pub p: u64,
+    pub t: u64,
+    pub list: u64,
+}
+
+impl Candidates {
+    /// The table for the candidates: 2, 4, 5, 7, 8, the least that applies.
+    pub fn refusal(&self) -> u64 {
+        if !(1..=64).contains(&self.width) {
+            REFUSED_WIDTH
+        } else if self.pairs.is_array_short() || is_short(self.list, 1, self.pairs.count) {
+            REFUSED_LENGTH
+        } else if [self.p, self.t]
+            .iter()
+            .any(|&word| reaches(word, self.width))
+        {
+            REFUSED_WORD
+        } else if self.pairs.count > PAIRS_MAX {
+            REFUSED_COUNT
+        } else if !self.pairs.is_ordered() {
+            REFUSED_ORDER
+        } else {
+            NONE
+        }
+    }
+}
+
+/// Whether a word is not below 2^width, for a width from 1 to 64.
+fn reaches(word: u64, width: u64) -> bool {
+    u128::from(word) >> width != 0
+}
+
+/// What is handed to the product search; of the atoms' rows their length.
+#[derive(Clone)]
+pub struct Search {
+    pub width: u64,
+    pub count: u64,
+    pub atoms: u64,
+    pub pairs: Pairs,
+    pub target: Row,
+}
+
+impl Search {
+    /// The table for the product search: 2, 4, 5, 7, 8, the least that applies.
+    pub fn refusal(&self) -> u64 {
+        if !(1..=64).contains(&self.width) {
+            REFUSED_WIDTH
+        } else if is_short(self.atoms, 16, self.count) || self.pairs.is_array_short() {
+            REFUSED_LENGTH
+        } else if self.target.iter().any(|&word| reaches(word, self.width)) {
+            REFUSED_WORD
+        } else if self.count > ATOMS_MAX as u64 || self.pairs.count > PAIRS_MAX {
+            REFUSED_COUNT
+        } else if !self.pairs.is_ordered() {
+            REFUSED_ORDER
+        } else {
+            NONE
+        }
+    }
+}
+
+#[cfg(test)]
+mod tests {
+    use super::Pairs;
+
+    /// Of all lists of three entries up to 3, one is the order list, whatever the words.
+    #[test]
+    fn one_order_list() {
+        for code in 0..27 {
+            let first_words = vec![code % 3, code / 3 % 3, code / 9];
+            let ordered = |code: &u64| {
+                let pairs = Pairs {
+                    count: 3,
+                    rows: 48,
+                    first_words: first_words.clone(),
+                    order: vec![code % 4, code / 4 % 4, code / 16],
+                };
+                pairs.is_ordered()
+            };
+            assert_eq!((0..64).filter(ordered).count(), 1);
+        }
+    }
+
+    /// Entries from the count on are not read.
+    #[test]
+    fn longer_order_list() {
+        let mut pairs = Pairs {
+            count: 1,
+            rows: 32,
+            first_words: vec![7, 7],
+            order: vec![0, 0],
+        };
+        assert!(pairs.is_ordered());
+        pairs.order[0] = 1;
+        assert!(!pairs.is_ordered());
+    }
+}
