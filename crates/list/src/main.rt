@@ -29,21 +29,26 @@ fn read_some(p: Parse) -> Turn {
 
 // Read after read to the text's end, or to a read that fails. A loop has to end: no run uses up 2^40 reads.
 fn read_all() -> Turn {
-    let mut t = Turn {
-        parse: parse::begin(),
-        state: 0,
-    };
+    let mut p = parse::begin();
     let mut turns: u64 = 0;
     while turns < 0x100_0000_0000 {
-        t = read_some(t.parse);
+        let t = read_some(p);
         turns += 1;
         if t.state != 0 {
             return t;
         }
+        p = t.parse;
     }
-    Turn {
-        parse: t.parse,
-        state: 2,
+    Turn { parse: p, state: 2 }
+}
+
+// Writes the first n bytes. A listing is never longer than its buffer.
+fn write_text(text: &[u8], n: usize) {
+    if text.len() < n {
+        return;
+    }
+    if !io::write_all(STANDARD_OUTPUT, &text[..n]) {
+        os::fail(b"standard output");
     }
 }
 
@@ -53,16 +58,10 @@ fn main() {
         os::fail(b"standard input");
         return;
     }
+    let p = t.parse;
     let mut text = [0u8; 131072];
-    let answer = listing::write_listing(&mut text, t.parse);
-    match answer {
-        ListingAnswer::Written(n) => {
-            if n <= text.len() {
-                if !io::write_all(STANDARD_OUTPUT, &text[..n]) {
-                    os::fail(b"standard output");
-                }
-            }
-        }
+    match listing::write_listing(&mut text, p) {
+        ListingAnswer::Written(n) => write_text(&text, n),
         ListingAnswer::Refused(_) => {}
     }
 }

@@ -1,1 +1,230 @@
-// to be written
+// The numbers of a text as a bank build wants them, what is refused of them, and the listing of the rest.
+use bank::Sizes;
+use probe::Point;
+use simd::ROW_WORDS;
+ghost use mathlib.Core.Path.{_≡_};
+ghost use Prim.Native.Nat.{_+_, _≤_};
+ghost use lib.ListN.{length};
+ghost use Rattle.arith.specs.Refusal.{outsideOf};
+ghost use Rattle.atoms.specs.Stock.{bankOf};
+ghost use Rattle.pool.specs.Pool.{arrays};
+ghost use Rattle.bank.specs.Phases.{Asked};
+ghost use Rattle.print.specs.Text.{listingOf};
+ghost use Rattle.print.specs.Printing.{Wrote, textMax};
+ghost use Rattle.listing.specs.Listing.{countOf, pointsOf, targetOf, numbersRefusal, textFor};
+ghost use Rattle.listing.specs.Steps.{pointFrom, InRange, reachRefusal, bankIndex, Lent, Both};
+
+// The most pairs of a listing.
+const LIMIT_MAX: u64 = 500;
+
+// Where the points begin.
+const POINTS_AT: usize = 3;
+
+// A point of nv words from `base` on, zeros past them.
+fn point_of(numbers: [u64; 115], base: usize, nv: usize) -> Point
+    requires { ⌜ (nv ≤ 6) × (base + nv ≤ 115) ⌝ }
+    ensures { λ r. ⌜ r ≡ pointFrom numbers base nv ⌝ }
+{
+    let mut words = [0u64; 6];
+    let mut i: usize = 0;
+    while i < nv {
+        words[i] = numbers[base + i];
+        i += 1;
+    }
+    Point { words }
+}
+
+// The sixteen points, of as many words as there are variables.
+fn points_of(numbers: [u64; 115], nv: usize) -> [Point; 16]
+    requires { ⌜ (nv ≡ countOf numbers) × (nv ≤ 6) ⌝ }
+    ensures { λ r. ⌜ r ≡ pointsOf numbers ⌝ }
+{
+    let mut points = [Point { words: [0; 6] }; 16];
+    let mut base = POINTS_AT;
+    let mut k: usize = 0;
+    while k < ROW_WORDS {
+        let p = point_of(numbers, base, nv);
+        points[k] = p;
+        base += nv;
+        k += 1;
+    }
+    points
+}
+
+// The target row, after the points.
+fn target_of(numbers: [u64; 115], nv: usize) -> [u64; 16]
+    requires { ⌜ (nv ≡ countOf numbers) × (nv ≤ 6) ⌝ }
+    ensures { λ r. ⌜ r ≡ targetOf numbers ⌝ }
+{
+    let base = POINTS_AT + ROW_WORDS * nv;
+    let mut row = [0u64; 16];
+    let mut i: usize = 0;
+    while i < ROW_WORDS {
+        row[i] = numbers[base + i];
+        i += 1;
+    }
+    row
+}
+
+// Whether n is below `low` or above `high`.
+fn outside(n: u64, low: u64, high: u64) -> bool
+    ensures { λ r. ⌜ r ≡ outsideOf low high n ⌝ }
+{
+    if n < low {
+        return true;
+    }
+    high < n
+}
+
+// The refusal of a word that isn't below 2^w: the bank build's, in arrays that are long enough.
+fn reach_refusal(numbers: [u64; 115]) -> u32
+    requires { ⌜ InRange numbers ⌝ }
+    ensures { λ r. ⌜ r ≡ reachRefusal numbers ⌝ }
+{
+    let nv = numbers[0] as usize;
+    let points = points_of(numbers, nv);
+    let target = target_of(numbers, nv);
+    let sizes = Sizes {
+        lengths: 479,
+        ops: 6 * 479,
+        operands: 6 * 479,
+        costs: 3 * 479,
+        rows: 16 * 479,
+        work: 4 * 479,
+    };
+    bank::bank_refusal(nv as u32, numbers[1] as u32, points, target, sizes)
+}
+
+// The refusal of the numbers of a text, 0 where there is none. Of a variable count above 6 nothing past the first number is read.
+pub fn refusal_of(numbers: [u64; 115]) -> u32
+    ensures { λ r. ⌜ r ≡ numbersRefusal numbers ⌝ }
+{
+    if outside(numbers[0], 1, arith::MAX_VARS as u64) {
+        return 1;
+    }
+    if outside(numbers[1], 1, arith::MAX_WIDTH as u64) {
+        return 2;
+    }
+    if LIMIT_MAX < numbers[2] {
+        return 3;
+    }
+    reach_refusal(numbers)
+}
+
+// How many atoms and pairs are built, and the index's mark.
+pub struct Counts {
+    pub atoms: usize,
+    pub pairs: usize,
+    pub cut: bool,
+}
+
+// The bank and its index into arrays that are long enough.
+fn build_both(
+    lengths: &mut [u32],
+    ops: &mut [u8],
+    operands: &mut [u64],
+    costs: &mut [u32],
+    rows: &mut [u64],
+    work: &mut [u32],
+    pairs: &mut [u32],
+    listed: &mut [u64],
+    slots: &mut [u32],
+    nv: u32,
+    w: u32,
+    limit: usize,
+    points: [Point; 16],
+    target: [u64; 16],
+) -> Counts
+    requires { ⌜ Asked nv w × (limit ≤ 500) ⌝ }
+    requires { ⌜ Lent (arrays (now lengths) (now ops) (now operands) (now costs) (now rows)) (now work) (now pairs) (now listed) (now slots) ⌝ }
+    ensures { λ r. ⌜ Both (now (lengths .exit)) (now (ops .exit)) (now (operands .exit)) (now (costs .exit)) (now (pairs .exit)) r (bankOf nv w points target) (bankIndex w limit (bankOf nv w points target)) ⌝ }
+{
+    let atoms = bank::inner::build(
+        lengths,
+        ops,
+        operands,
+        costs,
+        rows,
+        work,
+        nv,
+        w,
+        points,
+        target,
+    );
+    let made = index::inner::build(work, pairs, listed, slots, rows, w, atoms, limit);
+    Counts {
+        atoms,
+        pairs: made.pairs,
+        cut: made.cut,
+    }
+}
+
+// Writes the listing of a bank and of its index, and answers the place after it.
+fn list_bank(
+    out: &mut [u8],
+    nv: u32,
+    w: u32,
+    limit: usize,
+    points: [Point; 16],
+    target: [u64; 16],
+) -> usize
+    requires { ⌜ (Asked nv w × (limit ≤ 500)) × (textMax ≤ length (now out)) ⌝ }
+    ensures { λ r. ⌜ Wrote (now (out .entry)) 0 (now (out .exit)) r (listingOf (bankOf nv w points target) (bankIndex w limit (bankOf nv w points target))) ⌝ }
+    ensures { λ r. ⌜ r ≤ textMax ⌝ }
+{
+    let mut lengths = [0u32; 479];
+    let mut ops = [0u8; 2874];
+    let mut operands = [0u64; 2874];
+    let mut costs = [0u32; 1437];
+    let mut rows = [0u64; 7664];
+    let mut work = [0u32; 3916];
+    let mut pairs = [0u32; 1500];
+    let mut listed = [0u64; 8000];
+    let mut slots = [0u32; 500];
+    let built = build_both(
+        &mut lengths,
+        &mut ops,
+        &mut operands,
+        &mut costs,
+        &mut rows,
+        &mut work,
+        &mut pairs,
+        &mut listed,
+        &mut slots,
+        nv,
+        w,
+        limit,
+        points,
+        target,
+    );
+    print::inner::print_listing(
+        out,
+        &lengths,
+        &ops,
+        &operands,
+        &costs,
+        built.atoms,
+        &pairs,
+        built.pairs,
+        built.cut,
+    )
+}
+
+// Writes the listing that the numbers ask for, and answers the place after it.
+pub fn list_numbers(out: &mut [u8], numbers: [u64; 115]) -> usize
+    requires { ⌜ InRange numbers × (textMax ≤ length (now out)) ⌝ }
+    ensures { λ r. ⌜ Wrote (now (out .entry)) 0 (now (out .exit)) r (textFor numbers) ⌝ }
+    ensures { λ r. ⌜ r ≤ textMax ⌝ }
+{
+    let nv = numbers[0] as usize;
+    let points = points_of(numbers, nv);
+    let target = target_of(numbers, nv);
+    list_bank(
+        out,
+        nv as u32,
+        numbers[1] as u32,
+        numbers[2] as usize,
+        points,
+        target,
+    )
+}

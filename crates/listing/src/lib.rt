@@ -4,6 +4,9 @@ pub mod inner;
 use parse::Parse;
 ghost use Rattle.listing.specs.Listing.{Listed};
 
+// How long a buffer has to be.
+pub const TEXT_MAX: usize = 131072;
+
 // The length of the text in the buffer, or the refusal of a buffer that is too short.
 pub enum ListingAnswer {
     Written(usize),
@@ -14,6 +17,17 @@ pub enum ListingAnswer {
 pub fn write_listing(out: &mut [u8], p: Parse) -> ListingAnswer
     ensures { λ r. ⌜ Listed p (now (out .entry)) (now (out .exit)) r ⌝ }
 {
-    // to be written
-    ListingAnswer::Refused(4)
+    if out.len() < TEXT_MAX {
+        return ListingAnswer::Refused(4);
+    }
+    let input = parse::finish(p);
+    if !input.fits {
+        return ListingAnswer::Written(print::inner::print_refusal(out, 9));
+    }
+    let numbers = input.numbers;
+    let number = inner::refusal_of(numbers);
+    if number != 0 {
+        return ListingAnswer::Written(print::inner::print_refusal(out, number));
+    }
+    ListingAnswer::Written(inner::list_numbers(out, numbers))
 }

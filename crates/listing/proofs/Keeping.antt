@@ -1,0 +1,173 @@
+-- Laws of the kept numbers: they ask for what the numbers of the text ask for. Assumes nothing.
+use mathlib.Core.Path.{_≡_, refl, sym, ap, ap₂, _∙_}
+use mathlib.Core.Logic.{_⊎_, inl, inr}
+use mathlib.Core.Bool.{Bool, true, false, cond, _||_}
+use mathlib.Core.List.{List, [], _∷_, map}
+use mathlib.Core.Option.{Option, none, some}
+use Prim.Native.Nat.{ℕ, zero, suc, _+_, _*_, _^_, _≤_, _<_}
+use native.Mathlib.Nat.{mul-suc, mul-le-mul-left}
+use native.Mathlib.Omega.{arith}
+use borrow.Author.Tests.{lt-ltb, le-ltb, eqb-true}
+use lib.Dec.{ltb}
+use lib.ListN.{length, getD, take, drop, length-drop}
+use lib.Seq.{length-take-le, getD-take, getD-drop, ext-getD}
+use Rattle.arith.specs.Lists.{countUp}
+use Rattle.arith.specs.Refusal.{refuse, badCount, badWidth}
+use Rattle.arith.proofs.Lists.{bool-cases, false-true}
+use Rattle.arith.proofs.Refusals.{within}
+use Rattle.probe.specs.declared.Point.{Point}
+use Rattle.atoms.specs.Encoding.{padTo}
+use Rattle.atoms.specs.Stock.{bankOf}
+use Rattle.bank.specs.Build.{reaches, pointsReach}
+use Rattle.parse.specs.Text.{rightMany, ifRight, numbersOf, wordsOf, readText}
+use Rattle.parse.specs.Reading.{Keeps, Given}
+use Rattle.print.specs.Text.{refusedLine, listingOf}
+use Rattle.print.specs.Printing.{Wrote}
+use Rattle.print.proofs.Decimals.{reads}
+use Rattle.listing.specs.declared.ListingAnswer.the-variants.{Written}
+use Rattle.listing.specs.Listing.{countOf, widthOf, limitOf, pointOf, pointsOf, targetOf, numbersRefusal, bankFor, textFor, textOf, listing, Laid}
+use Rattle.listing.specs.Steps.{pointFrom, bankIndex}
+use Rattle.listing.proofs.Refusing.{number-1, none-refused}
+
+-- ---- how many numbers a text has
+right-of : (o : Option (List ℕ)) (ns : List ℕ) → ifRight o ≡ some ns → rightMany ns ≡ true
+unfolding ifRight
+right-of none ns e = absurd (none-some e)
+  where
+    none-some : _≡_ {A = Option (List ℕ)} none (some ns) → ⊥
+    none-some e = let z : _≡_ {A = ℕ} 0 1 = cc in omega arith
+right-of (some ms) ns e = elim (bool-cases (rightMany ms)) [
+  | inl t ↦ go t (sym (ap (λ (b : Bool). cond b (some ms) none) t) ∙ e)
+  | inr f ↦ absurd (none-some (sym (ap (λ (b : Bool). cond b (some ms) none) f) ∙ e))
+]
+  where
+    none-some : _≡_ {A = Option (List ℕ)} none (some ns) → ⊥
+    none-some e = let z : _≡_ {A = ℕ} 0 1 = cc in omega arith
+
+    go : rightMany ms ≡ true → some ms ≡ some ns → rightMany ns ≡ true
+    go t e = let same : ms ≡ ns = cc in ap rightMany (sym same) ∙ t
+
+many : (ns : List ℕ) → rightMany ns ≡ true → length ns ≡ 19 + 16 * countOf ns
+unfolding rightMany
+many [] e = absurd (false-true e)
+many (n ∷ ns) e = eqb-true _ _ e
+
+many-read : (text ns : List ℕ) → readText text ≡ some ns → length ns ≡ 19 + 16 * countOf ns
+unfolding readText
+many-read text ns e = many ns (right-of (numbersOf (wordsOf text)) ns e)
+
+-- ---- what is asked for
+map-same : (f g : ℕ → Point) (i n : ℕ) → ((k : ℕ) → k < i + n → f k ≡ g k) → map f (countUp i n) ≡ map g (countUp i n)
+unfolding countUp
+map-same f g i zero same = refl
+map-same f g i (suc n) same = ap₂ (λ (p : Point) (ps : List Point). p ∷ ps) (same i (omega arith)) (map-same f g (suc i) n (λ k h. same k (omega arith)))
+
+abbrev refusalWith : ℕ → ℕ → ℕ → List Point → List ℕ → ℕ
+refusalWith c w L points target =
+    refuse (badCount c) 1 (refuse (badWidth w) 2 (refuse (ltb 500 L) 3 (refuse (pointsReach (2 ^ w) c points || reaches (2 ^ w) target) 5 0)))
+
+module _ (numbers ns : List ℕ) (keeps : Keeps numbers ns) (right : length ns ≡ 19 + 16 * countOf ns) where
+  count-kept : countOf numbers ≡ countOf ns
+  count-kept = keeps .is 0 (omega arith) (omega (arith, right))
+
+  width-kept : widthOf numbers ≡ widthOf ns
+  width-kept = keeps .is 1 (omega arith) (omega (arith, right))
+
+  limit-kept : limitOf numbers ≡ limitOf ns
+  limit-kept = keeps .is 2 (omega arith) (omega (arith, right))
+
+  -- n numbers from place b on
+  part-kept : (n b : ℕ) → b + n ≤ 115 → b + n ≤ length ns → take n (drop b numbers) ≡ take n (drop b ns)
+  part-kept n b h l =
+      let one : length (take n (drop b numbers)) ≡ n = length-take-le n (drop b numbers) (omega (arith, length-drop b numbers, keeps .room)) in
+      let two : length (take n (drop b ns)) ≡ n = length-take-le n (drop b ns) (omega (arith, length-drop b ns)) in
+      ext-getD 0 (take n (drop b numbers)) (take n (drop b ns)) (one ∙ sym two)
+      (λ i m.
+      getD-take n (drop b numbers) i 0 (omega arith)
+      ∙ getD-drop b numbers i 0
+      ∙ keeps .is (b + i) (omega arith) (omega arith)
+      ∙ sym (getD-drop b ns i 0)
+      ∙ sym (getD-take n (drop b ns) i 0 (omega arith)))
+
+  module _ (few : countOf ns ≤ 6) where
+    point-kept : (k : ℕ) → k < 16 → pointOf numbers k ≡ pointOf ns k
+    unfolding pointOf
+    point-kept k h =
+        let c = countOf ns in
+        let up : c * suc k ≤ c * 16 = mul-le-mul-left c (omega arith) in
+        let next : c * suc k ≡ c * k + c = mul-suc c k in
+        ap (λ (n : ℕ). pointFrom numbers (3 + n * k) n) count-kept
+        ∙ ap (λ (l : List ℕ). record { words = padTo 6 0 l }) (part-kept c (3 + c * k) (omega (arith, up, next, few)) (omega (arith, up, next, right)))
+
+    points-kept : pointsOf numbers ≡ pointsOf ns
+    unfolding pointsOf
+    points-kept = map-same (pointOf numbers) (pointOf ns) 0 16 (λ k h. point-kept k (omega arith))
+
+    target-kept : targetOf numbers ≡ targetOf ns
+    unfolding targetOf
+    target-kept =
+        ap (λ (n : ℕ). take 16 (drop (3 + 16 * n) numbers)) count-kept
+        ∙ part-kept 16 (3 + 16 * countOf ns) (omega (arith, few)) (omega (arith, right))
+
+    -- whatever is made of count, width, limit, points and target
+    same-asked : {A : Type 0} (f : ℕ → ℕ → ℕ → List Point → List ℕ → A)
+        → f (countOf numbers) (widthOf numbers) (limitOf numbers) (pointsOf numbers) (targetOf numbers) ≡ f (countOf ns) (widthOf ns) (limitOf ns) (pointsOf ns) (targetOf ns)
+    same-asked f =
+        ap (λ (c : ℕ). f c (widthOf numbers) (limitOf numbers) (pointsOf numbers) (targetOf numbers)) count-kept
+        ∙ ap₂ (λ (w L : ℕ). f (countOf ns) w L (pointsOf numbers) (targetOf numbers)) width-kept limit-kept
+        ∙ ap₂ (f (countOf ns) (widthOf ns) (limitOf ns)) points-kept target-kept
+
+    few-kept : numbersRefusal numbers ≡ numbersRefusal ns
+    unfolding numbersRefusal
+    few-kept = same-asked refusalWith
+
+    text-kept : textFor numbers ≡ textFor ns
+    unfolding textFor bankFor
+    text-kept = same-asked (λ c w L points target. listingOf (bankOf c w points target) (bankIndex w L (bankOf c w points target)))
+
+  -- above six variables nothing past the first number tells
+  refusal-kept : numbersRefusal numbers ≡ numbersRefusal ns
+  refusal-kept = elim (bool-cases (badCount (countOf ns))) [
+    | inl bad ↦ number-1 numbers (ap badCount count-kept ∙ bad) ∙ sym (number-1 ns bad)
+    | inr good ↦ few-kept (within 1 6 (countOf ns) good .most)
+  ]
+
+-- ---- the text
+module _ (text : List ℕ) where
+  pub listing-nine : readText text ≡ none → refusedLine 9 ≡ listing text
+  unfolding listing textOf
+  listing-nine e = sym (ap textOf e)
+
+  module _ (ns : List ℕ) (e : readText text ≡ some ns) where
+    listing-refused : (n : ℕ) → n ≡ numbersRefusal ns → 0 < n → refusedLine n ≡ listing text
+    unfolding listing textOf
+    listing-refused n f h =
+        let t : ltb 0 (numbersRefusal ns) ≡ true = lt-ltb 0 (numbersRefusal ns) (omega (arith, f, h)) in
+        ap refusedLine f ∙ sym (ap (λ (b : Bool). cond b (refusedLine (numbersRefusal ns)) (textFor ns)) t) ∙ sym (ap textOf e)
+
+    listing-text : numbersRefusal ns ≡ 0 → textFor ns ≡ listing text
+    unfolding listing textOf
+    listing-text f =
+        let t : ltb 0 (numbersRefusal ns) ≡ false = le-ltb 0 (numbersRefusal ns) (omega (arith, f)) in
+        sym (ap (λ (b : Bool). cond b (refusedLine (numbersRefusal ns)) (textFor ns)) t) ∙ sym (ap textOf e)
+
+-- what is written from the buffer's start on
+pub laid : (xs ys : List ℕ) {out out′ : List ℕ} {r : ℕ} → xs ≡ ys → Wrote out 0 out′ r xs → Laid out out′ (Written r) ys
+laid xs ys e w =
+    let n : length ys ≡ 0 + length ys = omega arith in
+    let same = reads e w in
+    (ap Written (same .next ∙ sym n), record { next = n; laid = same .laid })
+
+-- ---- the numbers of a text that 9 doesn't turn back
+module _ (text numbers : List ℕ) (given : Given numbers text) where
+  kept : numbersRefusal numbers ≡ numbersRefusal (given .ns)
+  kept = refusal-kept numbers (given .ns) (given .keeps) (many-read text (given .ns) (given .is))
+
+  pub given-refused : (n : ℕ) → n ≡ numbersRefusal numbers → 0 < n → refusedLine n ≡ listing text
+  given-refused n e h = listing-refused text (given .ns) (given .is) n (e ∙ kept) h
+
+  pub given-text : numbersRefusal numbers ≡ 0 → textFor numbers ≡ listing text
+  given-text e =
+      let none : numbersRefusal (given .ns) ≡ 0 = sym kept ∙ e in
+      text-kept numbers (given .ns) (given .keeps) (many-read text (given .ns) (given .is)) (none-refused (given .ns) none .few)
+      ∙ listing-text text (given .ns) (given .is) none
