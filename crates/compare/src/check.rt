@@ -2,6 +2,7 @@
 use crate::banks;
 use crate::formulas;
 use crate::indexes;
+use crate::texts;
 use simd::Gate;
 use simd::Match;
 use simd::RowAnswer;
@@ -29,6 +30,7 @@ pub fn line_same(line: &[u64]) -> bool {
         12 => banks::bank_refusal_same(line),
         13 => indexes::index_same(line),
         14 => indexes::index_refusal_same(line),
+        20 => texts::head_same(line),
         _ => false,
     }
 }
