@@ -213,6 +213,9 @@ fn end_file(numbers: &mut [u64], out: &mut [u8], p: Progress) -> Tally
         return settle_case(p.case, p.tally);
     }
     let last = feed_part(numbers, out, b"\n", p);
+    if last.case.open {
+        return settle_case(last.case, last.tally);
+    }
     last.tally
 }
 
