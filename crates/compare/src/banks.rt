@@ -20,7 +20,7 @@ fn byte_at(s: &[u8], at: usize) -> u64 {
     if at < s.len() { byte_word(s[at]) } else { 0 }
 }
 
-fn half_at(s: &[u32], at: usize) -> u64 {
+pub fn half_at(s: &[u32], at: usize) -> u64 {
     if at < s.len() { half_word(s[at]) } else { 0 }
 }
 
@@ -124,6 +124,30 @@ pub fn bank_same(line: &[u64]) -> bool {
     let points = points_at(line, nv);
     let target = target_at(line, at);
     built_is(line, points, target, at + 16)
+}
+
+// The rows of the bank built, and how many there are; 0 where it is refused.
+pub fn bank_rows(rows: &mut [u64], line: &[u64], points: [Point; 16], target: [u64; 16]) -> usize
+    requires { ⌜ 3 ≤ length (now line) ⌝ }
+{
+    let mut lengths = [0u32; 479];
+    let mut ops = [0u8; 2874];
+    let mut operands = [0u64; 2874];
+    let mut costs = [0u32; 1437];
+    let mut work = [0u32; 1916];
+    let built = bank::build_bank(
+        &mut lengths,
+        &mut ops,
+        &mut operands,
+        &mut costs,
+        rows,
+        &mut work,
+        narrow(line[1]),
+        narrow(line[2]),
+        points,
+        target,
+    );
+    count_of(built)
 }
 
 // Whether the bank built is the one whose count and digests stand from `at` on.

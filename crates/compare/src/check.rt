@@ -2,6 +2,7 @@
 use crate::banks;
 use crate::formulas;
 use crate::indexes;
+use crate::searches;
 use crate::texts;
 use simd::Gate;
 use simd::Match;
@@ -30,6 +31,10 @@ pub fn line_same(line: &[u64]) -> bool {
         12 => banks::bank_refusal_same(line),
         13 => indexes::index_same(line),
         14 => indexes::index_refusal_same(line),
+        15 => searches::candidates_same(line),
+        16 => searches::product_same(line),
+        17 => searches::product_refusal_same(line),
+        18 => searches::candidates_refusal_same(line),
         20 => texts::head_same(line),
         _ => false,
     }

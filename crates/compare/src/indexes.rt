@@ -2,17 +2,16 @@
 use crate::banks;
 use crate::check::narrow;
 use index::IndexAnswer;
-use probe::Point;
 ghost use Prim.Native.Nat.{_+_, _^_, _≤_, _<_};
 ghost use lib.ListN.{length};
 
 // What the lent arrays hold before a build. Places beyond the counts must hold it after.
-const OLD_HALF: u32 = 0xa5a5_a5a5;
+pub const OLD_HALF: u32 = 0xa5a5_a5a5;
 
-const OLD_WORD: u64 = 0xa5a5_a5a5_5a5a_5a5a;
+pub const OLD_WORD: u64 = 0xa5a5_a5a5_5a5a_5a5a;
 
 // Whether the elements from a place on are as they were.
-fn halves_kept(s: &[u32], from: usize) -> bool {
+pub fn halves_kept(s: &[u32], from: usize) -> bool {
     let mut i = from;
     while i < s.len() {
         if s[i] != OLD_HALF {
@@ -64,36 +63,13 @@ pub fn index_same(line: &[u64]) -> bool {
     }
     let points = banks::points_at(line, nv);
     let target = banks::target_at(line, at);
-    over_bank(line, points, target, at + 16)
-}
-
-// The bank, and over its rows the index that stands from `at` on. No bank is empty.
-fn over_bank(line: &[u64], points: [Point; 16], target: [u64; 16], at: usize) -> bool
-    requires { ⌜ (3 ≤ at) × (at + 7 ≤ length (now line)) ⌝ }
-{
-    let mut lengths = [0u32; 479];
-    let mut ops = [0u8; 2874];
-    let mut operands = [0u64; 2874];
-    let mut costs = [0u32; 1437];
     let mut rows = [0u64; 7664];
-    let mut work = [0u32; 1916];
-    let built = bank::build_bank(
-        &mut lengths,
-        &mut ops,
-        &mut operands,
-        &mut costs,
-        &mut rows,
-        &mut work,
-        narrow(line[1]),
-        narrow(line[2]),
-        points,
-        target,
-    );
-    let count = banks::count_of(built);
+    let count = banks::bank_rows(&mut rows, line, points, target);
+    // no bank is empty
     if count == 0 {
         return false;
     }
-    index_is(line, at, count, &rows)
+    index_is(line, at + 16, count, &rows)
 }
 
 // Whether the index of `count` rows, of at most 500 pairs, is the one that stands from `at` on.
@@ -212,7 +188,7 @@ fn refusal_of(
 }
 
 // A length of the data that a slice can have.
-fn least(x: u64, most: usize) -> usize
+pub fn least(x: u64, most: usize) -> usize
     ensures { λ r. ⌜ r ≤ most ⌝ }
 {
     if x as usize <= most { x as usize } else { most }

@@ -1,10 +1,12 @@
 // The comparing program: reads each data file that its arguments name, asks our own calls for each line's answer, and writes
-// how many answers it compared and how many differ. A line that differs is named on standard error.
+// how many answers it compared and how many differ. A line that differs is named on standard error. After a line of kind 20 come
+// the bytes of a case, which isn't made of lines.
 mod banks;
 mod check;
 mod formulas;
 mod indexes;
 mod scan;
+mod searches;
 mod texts;
 
 use scan::Scan;
