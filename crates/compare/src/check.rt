@@ -3,6 +3,7 @@ use crate::banks;
 use crate::formulas;
 use crate::indexes;
 use crate::searches;
+use crate::texts;
 use simd::Gate;
 use simd::Match;
 use simd::RowAnswer;
@@ -34,6 +35,7 @@ pub fn line_same(line: &[u64]) -> bool {
         16 => searches::product_same(line),
         17 => searches::product_refusal_same(line),
         18 => searches::candidates_refusal_same(line),
+        20 => texts::head_same(line),
         _ => false,
     }
 }

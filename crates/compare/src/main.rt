@@ -1,13 +1,16 @@
 // The comparing program: reads each data file that its arguments name, asks our own calls for each line's answer, and writes
-// how many answers it compared and how many differ. A line that differs is named on standard error.
+// how many answers it compared and how many differ. A line that differs is named on standard error. After a line of kind 20 come
+// the bytes of a case, which isn't made of lines.
 mod banks;
 mod check;
 mod formulas;
 mod indexes;
 mod scan;
 mod searches;
+mod texts;
 
 use scan::Scan;
+use texts::Case;
 ghost use Prim.Native.Nat.{_≤_};
 ghost use lib.ListN.{length};
 
@@ -21,6 +24,7 @@ struct Tally {
 
 struct Progress {
     scan: Scan,
+    case: Case,
     tally: Tally,
     // 0: go on; 1: the file is at its end; 2: a read failed
     state: u8,
@@ -33,6 +37,13 @@ struct Argument {
 
 fn one_more(n: u64) -> u64 {
     std::num::wrapping_add_u64(n, 1)
+}
+
+// Names a line, or a case by its first line, on standard error.
+fn tell(line: u64) {
+    io::write_all(2, b"differs: line ");
+    io::print_decimal(2, line);
+    io::write_all(2, b"\n");
 }
 
 // Whether a line holds numbers, and they are our own answer.
@@ -62,70 +73,132 @@ fn settle(numbers: &[u64], s: Scan, mut t: Tally) -> Tally
         return t;
     }
     t.different = one_more(t.different);
-    io::write_all(2, b"differs: line ");
-    io::print_decimal(2, t.lines);
-    io::write_all(2, b"\n");
+    tell(t.lines);
     t
 }
 
-// The bytes of one read.
-fn feed_part(numbers: &mut [u64], part: &[u8], p: Progress) -> Progress
-    requires { ⌜ p .scan .count ≤ length (now numbers) ⌝ }
-    ensures { λ r. ⌜ r .scan .count ≤ length (now (numbers .exit)) ⌝ }
+// The case that a line opens, if it opens one. Its line is compared as a line, and counts for both.
+fn case_of(numbers: &[u64], s: Scan, line: u64) -> Case
+    requires { ⌜ s .count ≤ length (now numbers) ⌝ }
 {
-    let mut s = p.scan;
-    let mut t = p.tally;
-    let mut i: usize = 0;
-    while i < part.len() {
-        s = scan::feed(numbers, s, part[i]);
-        i += 1;
-        if s.ended {
-            t = settle(numbers, s, t);
-            s = Scan::new();
-        }
+    if s.bad {
+        return texts::none();
+    }
+    let count = s.count;
+    texts::begin(&numbers[..count], line)
+}
+
+// A case at its end, or at the file's.
+fn settle_case(c: Case, mut t: Tally) -> Tally {
+    if c.open || !c.same {
+        t.different = one_more(t.different);
+        tell(c.line);
+    }
+    t
+}
+
+// A further byte of an open case; line ends within it count.
+fn feed_case(out: &mut [u8], c: Case, mut t: Tally, byte: u8) -> Progress
+    ensures { λ r. ⌜ r .scan .count ≤ 0 ⌝ }
+{
+    if byte == b'\n' {
+        t.lines = one_more(t.lines);
+    }
+    let case = texts::feed(out, c, byte);
+    if !case.open {
+        t = settle_case(case, t);
     }
     Progress {
-        scan: s,
+        scan: Scan::new(),
+        case,
         tally: t,
         state: 0,
     }
 }
 
-fn read_some(numbers: &mut [u64], fd: i32, p: Progress) -> Progress
+// A further byte of a line.
+fn feed_line(numbers: &mut [u64], p: Progress, byte: u8) -> Progress
+    requires { ⌜ p .scan .count ≤ length (now numbers) ⌝ }
+    ensures { λ r. ⌜ r .scan .count ≤ length (now (numbers .exit)) ⌝ }
+{
+    let s = scan::feed(numbers, p.scan, byte);
+    let tally = p.tally;
+    if !s.ended {
+        let case = p.case;
+        return Progress {
+            scan: s,
+            case,
+            tally,
+            state: 0,
+        };
+    }
+    let t = settle(numbers, s, tally);
+    let case = case_of(numbers, s, t.lines);
+    Progress {
+        scan: Scan::new(),
+        case,
+        tally: t,
+        state: 0,
+    }
+}
+
+fn feed_byte(numbers: &mut [u64], out: &mut [u8], p: Progress, byte: u8) -> Progress
+    requires { ⌜ p .scan .count ≤ length (now numbers) ⌝ }
+    ensures { λ r. ⌜ r .scan .count ≤ length (now (numbers .exit)) ⌝ }
+{
+    if p.case.open {
+        return feed_case(out, p.case, p.tally, byte);
+    }
+    feed_line(numbers, p, byte)
+}
+
+// The bytes of one read.
+fn feed_part(numbers: &mut [u64], out: &mut [u8], part: &[u8], p: Progress) -> Progress
+    requires { ⌜ p .scan .count ≤ length (now numbers) ⌝ }
+    ensures { λ r. ⌜ r .scan .count ≤ length (now (numbers .exit)) ⌝ }
+{
+    let mut q = p;
+    let mut i: usize = 0;
+    while i < part.len() {
+        q = feed_byte(numbers, out, q, part[i]);
+        i += 1;
+    }
+    q
+}
+
+// The reading with another state.
+fn at_state(mut p: Progress, state: u8) -> Progress
+    ensures { λ r. ⌜ r .scan .count ≤ p .scan .count ⌝ }
+{
+    p.state = state;
+    p
+}
+
+fn read_some(numbers: &mut [u64], out: &mut [u8], fd: i32, p: Progress) -> Progress
     requires { ⌜ p .scan .count ≤ length (now numbers) ⌝ }
     ensures { λ r. ⌜ r .scan .count ≤ length (now (numbers .exit)) ⌝ }
 {
     let mut buffer = [0u8; 65536];
     let got = libc::read(fd, &mut buffer);
-    let s = p.scan;
-    let t = p.tally;
     if got < 0 {
-        return Progress {
-            scan: s,
-            tally: t,
-            state: 2,
-        };
+        return at_state(p, 2);
     }
     if got == 0 {
-        return Progress {
-            scan: s,
-            tally: t,
-            state: 1,
-        };
+        return at_state(p, 1);
     }
     let n = io::count(got, &buffer);
-    feed_part(numbers, &buffer[..n], p)
+    feed_part(numbers, out, &buffer[..n], p)
 }
 
 // Read after read to the file's end, or to a read that fails.
-fn read_all(numbers: &mut [u64], fd: i32, p: Progress) -> Progress
+fn read_all(numbers: &mut [u64], out: &mut [u8], fd: i32, p: Progress) -> Progress
     requires { ⌜ p .scan .count ≤ length (now numbers) ⌝ }
     ensures { λ r. ⌜ r .scan .count ≤ length (now (numbers .exit)) ⌝ }
 {
     let mut q = p;
     let mut turns: u64 = 0;
     while turns < 0x100_0000 {
-        q = read_some(numbers, fd, q);
+        q = read_some(numbers, out, fd, q);
         turns += 1;
         if q.state != 0 {
             return q;
@@ -134,19 +207,34 @@ fn read_all(numbers: &mut [u64], fd: i32, p: Progress) -> Progress
     q
 }
 
+// The file is at its end: a last line without a line end, or a case that isn't whole.
+fn end_file(numbers: &mut [u64], out: &mut [u8], p: Progress) -> Tally
+    requires { ⌜ p .scan .count ≤ length (now numbers) ⌝ }
+{
+    if p.case.open {
+        return settle_case(p.case, p.tally);
+    }
+    let last = feed_part(numbers, out, b"\n", p);
+    if last.case.open {
+        return settle_case(last.case, last.tally);
+    }
+    last.tally
+}
+
 // A whole file, its lines counted anew; one that isn't read to its end counts as a difference.
 fn compare_file(fd: i32, mut t: Tally) -> Tally {
     t.lines = 0;
     let mut numbers = [0u64; LINE_NUMBERS];
+    let mut out = [0u8; texts::PRINTED_MAX];
     let p = Progress {
         scan: Scan::new(),
+        case: texts::none(),
         tally: t,
         state: 0,
     };
-    let q = read_all(&mut numbers, fd, p);
+    let q = read_all(&mut numbers, &mut out, fd, p);
     let state = q.state;
-    let last = feed_part(&mut numbers, b"\n", q);
-    let mut end = last.tally;
+    let mut end = end_file(&mut numbers, &mut out, q);
     if state != 1 {
         end.different = one_more(end.different);
     }

@@ -3,35 +3,26 @@ use mathlib.Core.Path.{_≡_}
 use Prim.Native.Nat.{_-_, _≤_}
 use borrow.Author.Needs.{needs}
 use lib.ListN.{length}
-use mathlib.Core.Path.{_≡_}
-use Prim.Native.Nat.{_-_, _≤_}
-use lib.ListN.{length}
 use Rattle.compare.proofs.feed_part.Statement.{statement}
 use Rattle.compare.proofs.feed_part.Tie as tie
 
 abbrev Inv-loop : tie.InvT-loop
-Inv-loop numbers₀ part s₀ t₀ i₀ numbers s t i = (i ≤ length part) × ((length numbers ≡ length numbers₀) × (s .count ≤ length numbers))
+Inv-loop numbers₀ out₀ part q₀ i₀ numbers out q i = (i ≤ length part) × ((length numbers ≡ length numbers₀) × ((length out ≡ length out₀) × (q .scan .count ≤ length numbers)))
 
 abbrev μ-loop : tie.MeasureT-loop
-μ-loop numbers₀ part s₀ t₀ i₀ numbers s t i = length part - i
+μ-loop numbers₀ out₀ part q₀ i₀ numbers out q i = length part - i
 
 loop-holds : tie.Need-loop-holds Inv-loop μ-loop
 loop-holds c = search needs
 
-shared-slice-read-feed : tie.Need-shared-slice-read-feed Inv-loop μ-loop
-shared-slice-read-feed c = search needs
+shared-slice-read-feed-byte : tie.Need-shared-slice-read-feed-byte Inv-loop μ-loop
+shared-slice-read-feed-byte c = search needs
 
-feed-requires : tie.Need-feed-requires Inv-loop μ-loop
-feed-requires c κs = search needs
+feed-byte-requires : tie.Need-feed-byte-requires Inv-loop μ-loop
+feed-byte-requires c κs = search needs
 
 add-i : tie.Need-add-i Inv-loop μ-loop
 add-i c = search needs
-
-settle-requires : tie.Need-settle-requires Inv-loop μ-loop
-settle-requires c κs = search needs
-
-new-requires : tie.Need-new-requires Inv-loop μ-loop
-new-requires c κs = search needs
 
 loop-less : tie.Need-loop-less Inv-loop μ-loop
 loop-less c = search needs
@@ -39,14 +30,11 @@ loop-less c = search needs
 loop-again : tie.Need-loop-again Inv-loop μ-loop
 loop-again c = search needs
 
-loop-less-2 : tie.Need-loop-less-2 Inv-loop μ-loop
-loop-less-2 c = search needs
-
-loop-again-2 : tie.Need-loop-again-2 Inv-loop μ-loop
-loop-again-2 c = search needs
-
 same-length : tie.Need-same-length Inv-loop μ-loop
 same-length c = search needs
+
+same-length-2 : tie.Need-same-length-2 Inv-loop μ-loop
+same-length-2 c = search needs
 
 returns : tie.Need-returns Inv-loop μ-loop
 returns c = search needs
@@ -58,14 +46,11 @@ feed-part-spec =
     Inv-loop
     μ-loop
     loop-holds
-    shared-slice-read-feed
-    feed-requires
+    shared-slice-read-feed-byte
+    feed-byte-requires
     add-i
-    settle-requires
-    new-requires
     loop-less
     loop-again
-    loop-less-2
-    loop-again-2
     same-length
+    same-length-2
     returns)

@@ -5,5 +5,6 @@ pub mod bank;
 pub mod formulas;
 pub mod index;
 pub mod lent;
+pub mod listing;
 pub mod refusals;
 pub mod search;

@@ -1,4 +1,4 @@
-//! The numbers of the specification's table; the least that applies counts.
+//! The numbers of the specification's table; the least that applies counts, but 9 comes before all.
 
 pub const NONE: u64 = 0;
 pub const REFUSED_VARS: u64 = 1;
@@ -9,6 +9,7 @@ pub const REFUSED_WORD: u64 = 5;
 pub const REFUSED_FORMULA: u64 = 6;
 pub const REFUSED_COUNT: u64 = 7;
 pub const REFUSED_ORDER: u64 = 8;
+pub const REFUSED_TEXT: u64 = 9;
 
 /// The less of two refusals, where 0 is none.
 pub fn least(one: u64, other: u64) -> u64 {

@@ -1,0 +1,83 @@
+//! What the listing program must print: the Rust's bank and index, held against the specification's, as text.
+
+use oracle::access::{self, AtomView, Formula, IndexView, Row};
+
+use crate::banks::made::BankInput;
+use crate::spec::formulas::{ADD, AND, CONSTANT, MUL, NEG, NOT, OR, VARIABLE, XOR};
+use crate::spec::index as spec;
+
+/// The text for numbers that are not refused.
+pub fn listing(numbers: &[u64]) -> String {
+    let (bank, limit) = asked(numbers);
+    let atoms = bank.bank();
+    let rows: Vec<Row> = atoms.iter().map(|atom| atom.row).collect();
+    let index = access::index(&rows, bank.width, limit);
+    let expected = spec::index(&rows, bank.width, limit);
+    let cut = index.all > limit;
+    assert_eq!((&index.pairs, cut), (&expected.pairs, expected.cut));
+    text(&atoms, &index, cut)
+}
+
+/// Variable count, width, limit, the words of each point in turn, the target row.
+fn asked(numbers: &[u64]) -> (BankInput, usize) {
+    let num_vars = numbers[0] as usize;
+    let (points, target) = numbers[3..].split_at(16 * num_vars);
+    let bank = BankInput {
+        num_vars: num_vars as u32,
+        width: numbers[1] as u32,
+        points: points.chunks(num_vars).map(<[u64]>::to_vec).collect(),
+        target: target.try_into().expect("sixteen words"),
+    };
+    (bank, numbers[2] as usize)
+}
+
+fn text(atoms: &[AtomView], index: &IndexView, cut: bool) -> String {
+    let (count, pairs) = (atoms.len(), index.pairs.len());
+    let end = if cut { "cut" } else { "whole" };
+    let mut lines = vec![format!("atoms {count} pairs {pairs} {end}")];
+    lines.extend(atoms.iter().map(|atom| parted(&atom.cost)));
+    lines.extend(atoms.iter().map(|atom| formula(&atom.formula)));
+    lines.extend(index.pairs.iter().map(|pair| parted(pair)));
+    lines.iter().map(|line| format!("{line}\n")).collect()
+}
+
+fn formula(formula: &Formula) -> String {
+    let tokens: Vec<String> = formula.tokens().map(token).collect();
+    parted(&tokens)
+}
+
+fn token((op, operand): (u8, u64)) -> String {
+    match op {
+        CONSTANT => format!("c{operand}"),
+        VARIABLE => format!("v{operand}"),
+        ADD => "+".into(),
+        MUL => "*".into(),
+        AND => "&".into(),
+        OR => "|".into(),
+        XOR => "^".into(),
+        NOT => "!".into(),
+        NEG => "-".into(),
+        _ => panic!("opcode {op}"),
+    }
+}
+
+/// By one blank each.
+pub fn parted<T: ToString>(items: &[T]) -> String {
+    let items: Vec<String> = items.iter().map(T::to_string).collect();
+    items.join(" ")
+}
+
+#[cfg(test)]
+mod tests {
+    use super::listing;
+
+    /// The sheet's P1, letter by letter.
+    #[test]
+    fn p1() {
+        let mut numbers = vec![1, 1, 10];
+        numbers.extend([0, 1].repeat(8));
+        numbers.extend([0; 16]);
+        let printed = "atoms 4 pairs 0 whole\n1 0 1\n1 0 1\n1 0 1\n2 0 2\nc0\nc1\nv0\nv0 !\n";
+        assert_eq!(listing(&numbers), printed);
+    }
+}
