@@ -122,8 +122,6 @@ pub extern "C" fn simjaldek_build_bank(
     }
     let at = loaders::points_of(points);
     let row = simd::inner::load_row(target, 0);
-    let built = bank::build_bank(
-        lengths, ops, operands, costs, rows, work, nv, w, at, row,
-    );
+    let built = bank::build_bank(lengths, ops, operands, costs, rows, work, nv, w, at, row);
     replies::of_bank(built)
 }

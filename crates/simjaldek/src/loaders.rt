@@ -1,7 +1,7 @@
 // Points and rows that come as slices, and what is refused before a call.
-use probe::Point;
-use probe::POINTS;
 use probe::POINT_WORDS;
+use probe::POINTS;
+use probe::Point;
 use simd::ROW_WORDS;
 ghost use mathlib.Core.Path.{_≡_};
 ghost use Prim.Native.Nat.{_+_, _*_, _≤_};

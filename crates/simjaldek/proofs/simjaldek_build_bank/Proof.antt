@@ -14,20 +14,20 @@ refused-requires : tie.Need-refused-requires
 refused-requires c κs = search needs
 
 returns : tie.Need-returns
-returns c = 
+returns c =
     let r = c .before .before in
     let a = r .before .before .before .before .before .before .before .before .before .args in
     bank-early (a .nv) (a .w) (a .points .now) (a .target .now) (arrays (a .lengths .now) (a .ops .now) (a .operands .now) (a .costs .now) (a .rows .now)) (a .work .now) (r .points-row-refusal .result) _ (r .points-row-refusal .ensures)
     (omega (arith, c .before .if1 .taken)) (c .refused .ensures)
 
 points-of-requires : tie.Need-points-of-requires
-points-of-requires c κs = 
+points-of-requires c κs =
     let r = c .before in
     let a = r .before .before .before .before .before .before .before .before .before .args in
     both-long (a .nv) (a .w) (a .points .now) (a .target .now) (sym (r .points-row-refusal .ensures) ∙ c .if1 .left) .0
 
 load-row-requires : tie.Need-load-row-requires
-load-row-requires c κs = 
+load-row-requires c κs =
     let r = c .before .before in
     let a = r .before .before .before .before .before .before .before .before .before .args in
     omega (arith, both-long (a .nv) (a .w) (a .points .now) (a .target .now) (sym (r .points-row-refusal .ensures) ∙ c .before .if1 .left) .1)
@@ -57,7 +57,7 @@ same-length-6 : tie.Need-same-length-6
 same-length-6 c = search needs
 
 returns-2 : tie.Need-returns-2
-returns-2 c = 
+returns-2 c =
     let b = c .before .before .before .before .before .before .before .before .before .before .before .before .before in
     let l = b .before .before .before .before .before .before .before in
     let r = l .before .before .before in

@@ -19,7 +19,7 @@ refused-requires : tie.Need-refused-requires
 refused-requires c κs = search needs
 
 returns : tie.Need-returns
-returns c = 
+returns c =
     let r = c .before .before in
     let a = r .before .before .before .args in
     c .refused .ensures
@@ -27,7 +27,7 @@ returns c =
     (omega (arith, c .before .if1 .taken))
 
 load-row-requires : tie.Need-load-row-requires
-load-row-requires c κs = 
+load-row-requires c κs =
     let r = c .before in
     let a = r .before .before .before .args in
     omega (arith, row-long (a .w) (a .row .now) (sym (r .row-refusal .ensures) ∙ c .if1 .left))
@@ -39,7 +39,7 @@ of-slot-requires : tie.Need-of-slot-requires
 of-slot-requires c κs = search needs
 
 returns-2 : tie.Need-returns-2
-returns-2 c = 
+returns-2 c =
     let l = c .before .before in
     let r = l .before .before in
     let a = r .before .before .before .args in

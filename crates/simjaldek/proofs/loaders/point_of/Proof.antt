@@ -49,12 +49,12 @@ loop-less : tie.Need-loop-less Inv-loop μ-loop
 loop-less c = search needs
 
 loop-again : tie.Need-loop-again Inv-loop μ-loop
-loop-again c = 
+loop-again c =
     let t = c .before .before in
     (omega arith, (simp length-set (omega arith), filled-more _ (t .loop .point) (t .loop .i) _ (omega arith) (t .loop .inv .1 .1) refl))
 
 returns : tie.Need-returns Inv-loop μ-loop
-returns c = 
+returns c =
     let t = c .before in
     let s = t .before .args in
     let long = length-part 6 (s .words .now) (s .k) (omega arith) in

@@ -36,7 +36,7 @@ loop-less : tie.Need-loop-less Inv-loop μ-loop
 loop-less c = search needs
 
 loop-again : tie.Need-loop-again Inv-loop μ-loop
-loop-again c = 
+loop-again c =
     let t = c .before .before in
     let l = t .loop in
     let p = c .point-of in (
@@ -46,7 +46,7 @@ loop-again c =
 
 returns : tie.Need-returns Inv-loop μ-loop
 unfolding pointsFrom
-returns c = 
+returns c =
     let t = c .before in
     let l = t .loop in
     let z : l .k ≡ 16 = omega arith in

@@ -16,7 +16,7 @@ bad-width-requires : tie.Need-bad-width-requires
 bad-width-requires c κs = search needs
 
 returns-2 : tie.Need-returns-2
-returns-2 c = 
+returns-2 c =
     let e2 = c in
     let e1 = e2 .before .before in
     sym
@@ -27,7 +27,7 @@ mul-if3 : tie.Need-mul-if3
 mul-if3 c = search needs
 
 returns-3 : tie.Need-returns-3
-returns-3 c = 
+returns-3 c =
     let e2 = c .before in
     let e1 = e2 .before .before in
     sym
@@ -36,7 +36,7 @@ returns-3 c =
     (refused-here 4 0 (lt-ltb _ _ (c .if3 .taken)))))
 
 returns-4 : tie.Need-returns-4
-returns-4 c = 
+returns-4 c =
     let e2 = c .before in
     let e1 = e2 .before .before in
     sym

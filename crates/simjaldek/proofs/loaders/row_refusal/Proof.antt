@@ -13,12 +13,12 @@ returns : tie.Need-returns
 returns c = sym (refused-here 2 _ (sym (c .before .bad-width .ensures) ∙ c .if1 .taken))
 
 returns-2 : tie.Need-returns-2
-returns-2 c = 
+returns-2 c =
     let e1 = c .before in
     sym (refused-later 2 (sym (e1 .before .bad-width .ensures) ∙ e1 .if1 .left) (refused-here 4 0 (lt-ltb _ _ (c .if2 .taken))))
 
 returns-3 : tie.Need-returns-3
-returns-3 c = 
+returns-3 c =
     let e1 = c .before in
     sym (refused-later 2 (sym (e1 .before .bad-width .ensures) ∙ e1 .if1 .left) (refused-later 4 (le-ltb _ _ (c .if2 .left)) refl))
 
