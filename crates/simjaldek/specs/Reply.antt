@@ -1,0 +1,136 @@
+-- The answers of the calls by numbers, for callers from outside. Assumes nothing.
+use mathlib.Core.Path.{_≡_}
+use mathlib.Core.Bool.{Bool, true, false, _||_}
+use mathlib.Core.List.{List, [], _∷_}
+use mathlib.Core.Option.{Option, none, some}
+use Prim.Native.Nat.{ℕ, zero, suc, _+_, _<_}
+use lib.Dec.{ltb}
+use lib.ListN.{length}
+use Rattle.arith.specs.Refusal.{refuse, unlessRefused, badCount, badWidth, Outcome, refused, answer}
+use Rattle.arith.specs.Parts.{partAt}
+use Rattle.probe.specs.declared.Point.{Point}
+use Rattle.atoms.specs.Encoding as bank
+use Rattle.bank.specs.declared.BankAnswer.{BankAnswer}
+use Rattle.bank.specs.Build.{BankBuilt, bankSays}
+use Rattle.product.specs.Trying.{Product}
+use Rattle.index.specs.declared.IndexAnswer.{IndexAnswer}
+use Rattle.index.specs.Build.{Arrays, Summary, IndexBuilt, indexSays}
+use Rattle.candidates.specs.declared.CandidatesAnswer.{CandidatesAnswer}
+use Rattle.candidates.specs.Candidates.{Collected, candidatesSay}
+use Rattle.simjaldek.specs.declared.Reply.{Reply}
+
+-- ---- rows that come as slices
+-- 01, From heap ..: a row is sixteen words. The first sixteen of a slice count
+abbrev pub rowIn : List ℕ → List ℕ
+rowIn words = partAt 16 words 0
+
+-- 01, Turned back, 4: a lent array shorter than stated
+abbrev pub shortRow : List ℕ → Bool
+shortRow words = ltb (length words) 16
+
+-- 01, Turned back: of a call with a width and a row as a slice, 2 and 4 before the call's own
+abbrev pub rowRefusal : ℕ → List ℕ → ℕ
+rowRefusal w row = refuse (badWidth w) 2 (refuse (shortRow row) 4 0)
+
+-- 01, Turned back: the least applicable number counts. A number found before the call, else what the call answers
+abbrev pub orElse : {A : Type 0} → ℕ → Outcome A → Outcome A
+orElse number call = unlessRefused number call (refused number)
+
+-- ---- points that come as a slice
+-- 01, Points: each an array of at most six words
+abbrev pub pointIn : List ℕ → ℕ → Point
+pointIn words k = record { words = partAt 6 words k }
+
+-- n points from point k on
+unfoldable pub pointsFrom : List ℕ → ℕ → ℕ → List Point
+unfolding partAt
+pointsFrom words k zero = []
+pointsFrom words k (suc n) = pointIn words k ∷ pointsFrom words (k + 1) n
+
+-- 01, Points: sixteen. The first ninety-six words of a slice count
+abbrev pub pointsIn : List ℕ → List Point
+pointsIn words = pointsFrom words 0 16
+
+abbrev pub shortPoints : List ℕ → Bool
+shortPoints words = ltb (length words) 96
+
+-- 01, Turned back: of a call with a variable count, a width and points as a slice, 1, 2 and 4 before the call's own
+abbrev pub pointsRefusal : ℕ → ℕ → List ℕ → ℕ
+pointsRefusal nv w points = refuse (badCount nv) 1 (refuse (badWidth w) 2 (refuse (shortPoints points) 4 0))
+
+-- the same with a row
+abbrev pub pointsRowRefusal : ℕ → ℕ → List ℕ → List ℕ → ℕ
+pointsRowRefusal nv w points row = refuse (badCount nv) 1 (refuse (badWidth w) 2 (refuse (shortPoints points || shortRow row) 4 0))
+
+-- ---- answers by numbers
+-- 01, Turned back: beside a number of the table there is nothing else
+abbrev pub refusedReply : ℕ → Reply
+refusedReply number = record { refusal = number; kind = 0; a = 0; b = 0 }
+
+-- an answer of this kind, with its numbers
+abbrev pub reply : ℕ → ℕ → ℕ → Reply
+reply kind a b = record { refusal = 0; kind = kind; a = a; b = b }
+
+-- 01, Product search: nothing, two atoms, or an atom and a pair
+abbrev pub productReply : Outcome (Option Product) → Reply
+productReply (refused number) = refusedReply number
+productReply (answer none) = reply 0 0 0
+productReply (answer (some (Product.ofAtoms a b))) = reply 1 a b
+productReply (answer (some (Product.ofPair a s))) = reply 2 a s
+
+-- 01, Also added: the least slot with a row, or none
+abbrev pub slotReply : Outcome (Option ℕ) → Reply
+slotReply (refused number) = refusedReply number
+slotReply (answer none) = reply 0 0 0
+slotReply (answer (some slot)) = reply 1 slot 0
+
+-- 01, Candidates: how many there are, or "not used"
+abbrev pub candidatesReply : Outcome (Option ℕ) → Reply
+candidatesReply (refused number) = refusedReply number
+candidatesReply (answer none) = reply 0 0 0
+candidatesReply (answer (some count)) = reply 1 count 0
+
+-- a mark as a number
+abbrev pub markOf : Bool → ℕ
+markOf true = 1
+markOf false = 0
+
+-- 01, From heap ..: how many pairs are listed, and the mark "cut"
+abbrev pub indexReply : Outcome Summary → Reply
+indexReply (refused number) = refusedReply number
+indexReply (answer s) = reply 0 (s .pairs) (markOf (s .cut))
+
+-- how many atoms there are
+abbrev pub bankReply : Outcome ℕ → Reply
+bankReply (refused number) = refusedReply number
+bankReply (answer count) = reply 0 count 0
+
+-- ---- answers beside arrays
+-- 01, Agreed: the result and the final contents of every array: an answer of `build_index` with its own promise, and the reply is that answer by numbers
+pub record Indexed (w count : ℕ) (rows : List ℕ) (L : ℕ) (old new : Arrays) (r : Reply) : Type 0 where
+  pub call : IndexAnswer
+  pub promise : IndexBuilt w count rows L old new call
+  pub told : r ≡ indexReply (indexSays call)
+
+-- the same of `collect_mul_probe0_candidates`
+pub record Listed (w n : ℕ) (rows order : List ℕ) (p t : ℕ) (old new : List ℕ) (r : Reply) : Type 0 where
+  pub call : CandidatesAnswer
+  pub promise : Collected w n rows order p t old new call
+  pub told : r ≡ candidatesReply (candidatesSay call)
+
+-- the same of `build_bank`, where the points and the target are long enough
+pub record Banked (nv w : ℕ) (points : List Point) (target : List ℕ) (old new : bank.Arrays) (oldWork newWork : List ℕ) (r : Reply) : Type 0 where
+  pub call : BankAnswer
+  pub promise : BankBuilt nv w points target old new oldWork newWork call
+  pub told : r ≡ bankReply (bankSays call)
+
+-- 01, Turned back: nothing is written where a call is turned back
+pub record Untouched (number : ℕ) (old new : bank.Arrays) (oldWork newWork : List ℕ) (r : Reply) : Type 0 where
+  pub arrays : new ≡ old
+  pub work : newWork ≡ oldWork
+  pub told : r ≡ refusedReply number
+
+-- 01, Agreed: a bank build with its points and its target as slices
+pub record BankReplied (nv w : ℕ) (points target : List ℕ) (old new : bank.Arrays) (oldWork newWork : List ℕ) (r : Reply) : Type 0 where
+  pub early : 0 < pointsRowRefusal nv w points target → Untouched (pointsRowRefusal nv w points target) old new oldWork newWork r
+  pub built : pointsRowRefusal nv w points target ≡ 0 → Banked nv w (pointsIn points) (rowIn target) old new oldWork newWork r
