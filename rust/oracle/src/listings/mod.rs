@@ -29,9 +29,9 @@ const HEAD: [&str; 16] = [
     "      The text: variable count, width, limit, the words of 16 points, 16 target words.",
     "First come the texts of the specification's P1, P2 (limits 0, 35, 36, 37 and 500), P9 and P10; then for each variable count",
     "points and targets of all styles at several widths.",
-    "After them come texts that are refused 1, 2, 3 or 5, with close neighbours that are not; texts that are refused 9, each",
-    "a good text with one damage, or without a number at all; and good texts of odd shape (other blanks and line ends, leading",
-    "zeros, one that is longer than two reads of 65,536 bytes).",
+    "After them come texts that are refused 1, 2, 3 or 5, with close neighbours that are not; texts that are refused 9, some",
+    "of which would be refused otherwise if they were well formed; and texts of odd shape (other blanks and line ends, leading",
+    "zeros, one that is longer than two reads of 65,536 bytes), all good but the last, which has more numbers than are kept.",
 ];
 
 /// The whole file.
@@ -81,7 +81,7 @@ mod tests {
         (&file[..end], &file[end + 1..])
     }
 
-    /// The counts of a case's line lead to its line end, and there are as many cases as were asked for.
+    /// The counts of a case's line lead to its line end and the next case.
     #[test]
     fn counts_lead_from_case_to_case() {
         let file = data_file();
