@@ -1,7 +1,7 @@
 -- Laws of a bank and its index in lent arrays. Assumes nothing.
-use mathlib.Core.Path.{_≡_, refl, sym, ap, ap₂, _∙_}
-use mathlib.Core.List.{List, [], _∷_, map}
-use Prim.Native.Nat.{ℕ, _+_, _*_, _≤_, _<_}
+use mathlib.Core.Path.{_≡_, sym, ap, ap₂, _∙_}
+use mathlib.Core.List.{List, [], map}
+use Prim.Native.Nat.{ℕ, _*_, _≤_, _<_}
 use native.Mathlib.Omega.{arith}
 use lib.ListN.{length, getD, length-map}
 use lib.Seq.{ext-getD}
@@ -21,7 +21,6 @@ use Rattle.bank.specs.Phases.{Asked, Phase}
 use Rattle.print.specs.Text.{listingOf}
 use Rattle.print.specs.Printing.{Wrote}
 use Rattle.print.proofs.Decimals.{reads}
-use Rattle.listing.specs.declared.inner.Counts.{Counts}
 use Rattle.listing.specs.Listing.{countOf, widthOf, limitOf, pointsOf, targetOf, bankFor, textFor}
 use Rattle.listing.specs.Steps.{bankIndex, Lent, Both}
 

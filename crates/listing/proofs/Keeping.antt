@@ -1,6 +1,6 @@
 -- Laws of the kept numbers: they ask for what the numbers of the text ask for. Assumes nothing.
 use mathlib.Core.Path.{_≡_, refl, sym, ap, ap₂, _∙_}
-use mathlib.Core.Logic.{_⊎_, inl, inr}
+use mathlib.Core.Logic.{inl, inr}
 use mathlib.Core.Bool.{Bool, true, false, cond, _||_}
 use mathlib.Core.List.{List, [], _∷_, map}
 use mathlib.Core.Option.{Option, none, some}
@@ -9,7 +9,7 @@ use native.Mathlib.Nat.{mul-suc, mul-le-mul-left}
 use native.Mathlib.Omega.{arith}
 use borrow.Author.Tests.{lt-ltb, le-ltb, eqb-true}
 use lib.Dec.{ltb}
-use lib.ListN.{length, getD, take, drop, length-drop}
+use lib.ListN.{length, take, drop, length-drop}
 use lib.Seq.{length-take-le, getD-take, getD-drop, ext-getD}
 use Rattle.arith.specs.Lists.{countUp}
 use Rattle.arith.specs.Refusal.{refuse, badCount, badWidth}
@@ -30,20 +30,17 @@ use Rattle.listing.specs.Steps.{pointFrom, bankIndex}
 use Rattle.listing.proofs.Refusing.{number-1, none-refused}
 
 -- ---- how many numbers a text has
+none-some : (ns : List ℕ) → _≡_ {A = Option (List ℕ)} none (some ns) → ⊥
+none-some ns e = let z : _≡_ {A = ℕ} 0 1 = cc in omega arith
+
 right-of : (o : Option (List ℕ)) (ns : List ℕ) → ifRight o ≡ some ns → rightMany ns ≡ true
 unfolding ifRight
-right-of none ns e = absurd (none-some e)
-  where
-    none-some : _≡_ {A = Option (List ℕ)} none (some ns) → ⊥
-    none-some e = let z : _≡_ {A = ℕ} 0 1 = cc in omega arith
+right-of none ns e = absurd (none-some ns e)
 right-of (some ms) ns e = elim (bool-cases (rightMany ms)) [
   | inl t ↦ go t (sym (ap (λ (b : Bool). cond b (some ms) none) t) ∙ e)
-  | inr f ↦ absurd (none-some (sym (ap (λ (b : Bool). cond b (some ms) none) f) ∙ e))
+  | inr f ↦ absurd (none-some ns (sym (ap (λ (b : Bool). cond b (some ms) none) f) ∙ e))
 ]
   where
-    none-some : _≡_ {A = Option (List ℕ)} none (some ns) → ⊥
-    none-some e = let z : _≡_ {A = ℕ} 0 1 = cc in omega arith
-
     go : rightMany ms ≡ true → some ms ≡ some ns → rightMany ns ≡ true
     go t e = let same : ms ≡ ns = cc in ap rightMany (sym same) ∙ t
 

@@ -1,5 +1,10 @@
 // The numbers of a text as a bank build wants them, what is refused of them, and the listing of the rest.
 use bank::Sizes;
+use entry::ATOM_TOKENS;
+use index::inner::PAIR_WORDS;
+use pool::ATOMS_MAX;
+use pool::COST_NUMBERS;
+use pool::WORK_WORDS;
 use probe::Point;
 use simd::ROW_WORDS;
 ghost use mathlib.Core.Path.{_≡_};
@@ -14,8 +19,13 @@ ghost use Rattle.print.specs.Printing.{Wrote, textMax};
 ghost use Rattle.listing.specs.Listing.{countOf, pointsOf, targetOf, numbersRefusal, textFor};
 ghost use Rattle.listing.specs.Steps.{pointFrom, InRange, reachRefusal, bankIndex, Lent, Both};
 
-// The most pairs of a listing.
+// The most pairs of a listing, as a number that is read and as a length.
 const LIMIT_MAX: u64 = 500;
+
+const PAIRS_MAX: usize = 500;
+
+// The words of the work area of bank and index.
+const AREA_WORDS: usize = 4 * (PAIRS_MAX + ATOMS_MAX);
 
 // Where the points begin.
 const POINTS_AT: usize = 3;
@@ -85,12 +95,12 @@ fn reach_refusal(numbers: [u64; 115]) -> u32
     let points = points_of(numbers, nv);
     let target = target_of(numbers, nv);
     let sizes = Sizes {
-        lengths: 479,
-        ops: 6 * 479,
-        operands: 6 * 479,
-        costs: 3 * 479,
-        rows: 16 * 479,
-        work: 4 * 479,
+        lengths: ATOMS_MAX,
+        ops: ATOM_TOKENS * ATOMS_MAX,
+        operands: ATOM_TOKENS * ATOMS_MAX,
+        costs: COST_NUMBERS * ATOMS_MAX,
+        rows: ROW_WORDS * ATOMS_MAX,
+        work: WORK_WORDS,
     };
     bank::bank_refusal(nv as u32, numbers[1] as u32, points, target, sizes)
 }
@@ -172,15 +182,15 @@ fn list_bank(
     ensures { λ r. ⌜ Wrote (now (out .entry)) 0 (now (out .exit)) r (listingOf (bankOf nv w points target) (bankIndex w limit (bankOf nv w points target))) ⌝ }
     ensures { λ r. ⌜ r ≤ textMax ⌝ }
 {
-    let mut lengths = [0u32; 479];
-    let mut ops = [0u8; 2874];
-    let mut operands = [0u64; 2874];
-    let mut costs = [0u32; 1437];
-    let mut rows = [0u64; 7664];
-    let mut work = [0u32; 3916];
-    let mut pairs = [0u32; 1500];
-    let mut listed = [0u64; 8000];
-    let mut slots = [0u32; 500];
+    let mut lengths = [0u32; ATOMS_MAX];
+    let mut ops = [0u8; ATOM_TOKENS * ATOMS_MAX];
+    let mut operands = [0u64; ATOM_TOKENS * ATOMS_MAX];
+    let mut costs = [0u32; COST_NUMBERS * ATOMS_MAX];
+    let mut rows = [0u64; ROW_WORDS * ATOMS_MAX];
+    let mut work = [0u32; AREA_WORDS];
+    let mut pairs = [0u32; PAIR_WORDS * PAIRS_MAX];
+    let mut listed = [0u64; ROW_WORDS * PAIRS_MAX];
+    let mut slots = [0u32; PAIRS_MAX];
     let built = build_both(
         &mut lengths,
         &mut ops,

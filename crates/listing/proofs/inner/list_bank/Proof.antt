@@ -1,5 +1,4 @@
 -- `listing::inner::list_bank` meets its contract: what is printed is what the arrays hold. Assumes nothing.
-use native.Mathlib.Omega.{arith}
 use borrow.Author.Needs.{needs}
 use Rattle.listing.proofs.inner.list_bank.Statement.{statement}
 use Rattle.listing.proofs.inner.list_bank.Tie as tie

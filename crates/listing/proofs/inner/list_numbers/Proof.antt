@@ -1,5 +1,4 @@
 -- `listing::inner::list_numbers` meets its contract: count, width, limit, points and target are those of the numbers. Assumes nothing.
-use native.Mathlib.Omega.{arith}
 use borrow.Author.Needs.{needs}
 use Rattle.listing.proofs.Building.{text-is}
 use Rattle.listing.proofs.inner.list_numbers.Statement.{statement}

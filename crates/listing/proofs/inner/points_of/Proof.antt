@@ -1,12 +1,10 @@
 -- `listing::inner::points_of` meets its contract: the points stored are the first of all. Assumes nothing.
-use mathlib.Core.Path.{_≡_, refl, sym, _∙_}
+use mathlib.Core.Path.{_≡_}
 use mathlib.Core.List.{map}
-use Prim.Native.Nat.{ℕ, _+_, _-_, _*_, _≤_}
-use native.Mathlib.Nat.{mul-suc}
+use Prim.Native.Nat.{_+_, _-_, _*_, _≤_}
 use native.Mathlib.Omega.{arith}
 use borrow.Author.Needs.{needs}
 use lib.ListN.{length, take, length-set}
-use lib.Seq.{take-all}
 use Rattle.arith.specs.Lists.{countUp}
 use Rattle.listing.specs.Listing.{pointOf}
 use Rattle.listing.proofs.Numbers.{none-stored, base-more, points-more, points-are}

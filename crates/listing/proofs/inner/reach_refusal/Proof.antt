@@ -26,9 +26,6 @@ mul-t13 c = search needs
 mul-t14 : tie.Need-mul-t14
 mul-t14 c = search needs
 
-mul-t15 : tie.Need-mul-t15
-mul-t15 c = search needs
-
 cast-bank-refusal : tie.Need-cast-bank-refusal
 cast-bank-refusal c = search needs
 
@@ -57,7 +54,6 @@ reach-refusal-spec =
     mul-t12
     mul-t13
     mul-t14
-    mul-t15
     cast-bank-refusal
     array-read-bank-refusal
     cast-bank-refusal-2
