@@ -1,20 +1,23 @@
 -- A number found before the call, and none. Assumes nothing.
 use mathlib.Core.Path.{_≡_, refl, sym, ap, _∙_, subst}
-use mathlib.Core.Bool.{_||_}
+use mathlib.Core.Bool.{Bool, false, _||_}
 use mathlib.Core.List.{List}
-use Prim.Native.Nat.{ℕ, _≤_, _<_}
+use Prim.Native.Nat.{ℕ, zero, suc, _≤_, _<_}
 use native.Mathlib.Omega.{arith}
 use borrow.Author.Tests.{ltb-false}
 use lib.Dec.{ltb}
 use lib.ListN.{length}
 use Rattle.arith.specs.Refusal.{refuse, badCount, badWidth, Outcome, refused}
 use Rattle.arith.proofs.Refusals.{passed, neither, unless-refused, unless-not}
+use Rattle.simd.specs.declared.RowAnswer.{RowAnswer}
+use Rattle.simd.specs.declared.Gate.the-variants.{Mul}
 use Rattle.probe.specs.declared.Point.{Point}
 use Rattle.atoms.specs.Encoding.{Arrays}
 use Rattle.bank.specs.declared.BankAnswer.{BankAnswer}
 use Rattle.bank.specs.Build.{BankBuilt, bankSays}
 use Rattle.simjaldek.specs.declared.Reply.{Reply}
-use Rattle.simjaldek.specs.Reply.{rowIn, shortRow, rowRefusal, shortPoints, pointsIn, pointsRefusal, pointsRowRefusal, orElse, refusedReply, bankReply, BankReplied}
+use Rattle.simjaldek.specs.Slices.{rowIn, shortRow, rowRefusal, shortPoints, pointsIn, pointsRefusal, pointsRowRefusal, gateAt, twoShort, threeShort, gateRefusal}
+use Rattle.simjaldek.specs.Reply.{orElse, refusedReply, bankReply, BankReplied, rowReply, refusedRow, rowOrElse}
 
 -- a number was found: the code of the answer is that of the number
 pub told-early : {A B : Type 0} (code : Outcome A → B) (number : ℕ) (call : Outcome A) (found : ℕ) → found ≡ number → 0 < found → code (refused found) ≡ code (orElse number call)
@@ -65,3 +68,41 @@ bank-built nv w points target old new oldWork newWork found ps row call r e z p 
     told = told;
   };
 }
+
+-- ---- rows
+pub row-early : (number : ℕ) (call : RowAnswer) (found : ℕ) → found ≡ number → 0 < found → refusedRow found ≡ rowOrElse number call
+row-early number call found e h = ap refusedRow e ∙ sym (unless-refused number (rowReply call) (refusedRow number) (omega arith))
+
+pub row-call : (number : ℕ) (call said : RowAnswer) (found : ℕ) → found ≡ number → found ≡ 0 → said ≡ call → rowReply said ≡ rowOrElse number call
+row-call number call said found e z s = ap rowReply s ∙ sym (unless-not number (rowReply call) (refusedRow number) (sym e ∙ z))
+
+-- ---- gates by their numbers
+pub gate-numbered : (w : ℕ) (short s : Bool) (g found : ℕ) → found ≡ gateRefusal w short g → short ≡ s → found ≡ gateRefusal w s g
+gate-numbered w short s g found e f = e ∙ ap (λ (b : Bool). gateRefusal w b g) f
+
+pub gate-long : (w : ℕ) (short : Bool) (g : ℕ) → gateRefusal w short g ≡ 0 → short ≡ false
+gate-long w short g e =
+    let rest = refuse (ltb 4 g) 6 0 in
+    passed short 4 rest (omega arith) (passed (badWidth w) 2 (refuse short 4 rest) (omega arith) e .1) .0
+
+pub two-long : (a b : List ℕ) → twoShort a b ≡ false → (16 ≤ length a) × (16 ≤ length b)
+two-long a b e =
+    let g = neither (shortRow a) (shortRow b) e in
+    (ltb-false (length a) 16 (g .0), ltb-false (length b) 16 (g .1))
+
+pub three-long : (a b c : List ℕ) → threeShort a b c ≡ false → ((16 ≤ length a) × (16 ≤ length b)) × (16 ≤ length c)
+three-long a b c e =
+    let g = neither (twoShort a b) (shortRow c) e in
+    (two-long a b (g .0), ltb-false (length c) 16 (g .1))
+
+pub gate-high : (g : ℕ) → 4 ≤ g → gateAt g ≡ Mul
+unfolding gateAt
+gate-high zero h = absurd (omega arith)
+gate-high (suc zero) h = absurd (omega arith)
+gate-high (suc (suc zero)) h = absurd (omega arith)
+gate-high (suc (suc (suc zero))) h = absurd (omega arith)
+gate-high (suc (suc (suc (suc n)))) h = refl
+
+-- ---- a call with equal arguments
+pub same3 : {A B C D : Type 0} (f : A → B → C → D) {a a′ : A} {b b′ : B} {c c′ : C} → a ≡ a′ → b ≡ b′ → c ≡ c′ → f a b c ≡ f a′ b′ c′
+same3 {A} {B} {C} f {a} {a′} {b} {b′} {c} p q r = ap (λ (x : A). f x b c) p ∙ ap (λ (y : B). f a′ y c) q ∙ ap (λ (z : C). f a′ b′ z) r

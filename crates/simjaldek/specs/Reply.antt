@@ -1,14 +1,15 @@
 -- The answers of the calls by numbers, for callers from outside. Assumes nothing.
 use mathlib.Core.Path.{_≡_}
-use mathlib.Core.Bool.{Bool, true, false, _||_}
-use mathlib.Core.List.{List, [], _∷_}
+use mathlib.Core.Bool.{Bool, true, false}
+use mathlib.Core.List.{List, map}
 use mathlib.Core.Option.{Option, none, some}
-use Prim.Native.Nat.{ℕ, zero, suc, _+_, _<_}
-use lib.Dec.{ltb}
-use lib.ListN.{length}
-use Rattle.arith.specs.Refusal.{refuse, unlessRefused, badCount, badWidth, Outcome, refused, answer}
-use Rattle.arith.specs.Parts.{partAt}
+use Prim.Native.Nat.{ℕ, _<_}
+use lib.ListN.{replicate}
+use Rattle.arith.specs.Refusal.{unlessRefused, Outcome, refused, answer}
+use Rattle.simd.specs.declared.RowAnswer.{RowAnswer}
+use Rattle.expr.specs.declared.CostAnswer.{CostAnswer}
 use Rattle.probe.specs.declared.Point.{Point}
+use Rattle.probe.specs.declared.Points.{Points}
 use Rattle.atoms.specs.Encoding as bank
 use Rattle.bank.specs.declared.BankAnswer.{BankAnswer}
 use Rattle.bank.specs.Build.{BankBuilt, bankSays}
@@ -18,49 +19,16 @@ use Rattle.index.specs.Build.{Arrays, Summary, IndexBuilt, indexSays}
 use Rattle.candidates.specs.declared.CandidatesAnswer.{CandidatesAnswer}
 use Rattle.candidates.specs.Candidates.{Collected, candidatesSay}
 use Rattle.simjaldek.specs.declared.Reply.{Reply}
-
--- ---- rows that come as slices
--- 01, From heap ..: a row is sixteen words. The first sixteen of a slice count
-abbrev pub rowIn : List ℕ → List ℕ
-rowIn words = partAt 16 words 0
-
--- 01, Turned back, 4: a lent array shorter than stated
-abbrev pub shortRow : List ℕ → Bool
-shortRow words = ltb (length words) 16
-
--- 01, Turned back: of a call with a width and a row as a slice, 2 and 4 before the call's own
-abbrev pub rowRefusal : ℕ → List ℕ → ℕ
-rowRefusal w row = refuse (badWidth w) 2 (refuse (shortRow row) 4 0)
+use Rattle.simjaldek.specs.declared.WordReply.{WordReply}
+use Rattle.simjaldek.specs.declared.CostReply.{CostReply}
+use Rattle.simjaldek.specs.declared.RowReply.{RowReply}
+use Rattle.simjaldek.specs.declared.PointWords.{PointWords}
+use Rattle.simjaldek.specs.declared.PointsReply.{PointsReply}
+use Rattle.simjaldek.specs.Slices.{rowIn, pointsIn, pointsRowRefusal}
 
 -- 01, Turned back: the least applicable number counts. A number found before the call, else what the call answers
 abbrev pub orElse : {A : Type 0} → ℕ → Outcome A → Outcome A
 orElse number call = unlessRefused number call (refused number)
-
--- ---- points that come as a slice
--- 01, Points: each an array of at most six words
-abbrev pub pointIn : List ℕ → ℕ → Point
-pointIn words k = record { words = partAt 6 words k }
-
--- n points from point k on
-unfoldable pub pointsFrom : List ℕ → ℕ → ℕ → List Point
-unfolding partAt
-pointsFrom words k zero = []
-pointsFrom words k (suc n) = pointIn words k ∷ pointsFrom words (k + 1) n
-
--- 01, Points: sixteen. The first ninety-six words of a slice count
-abbrev pub pointsIn : List ℕ → List Point
-pointsIn words = pointsFrom words 0 16
-
-abbrev pub shortPoints : List ℕ → Bool
-shortPoints words = ltb (length words) 96
-
--- 01, Turned back: of a call with a variable count, a width and points as a slice, 1, 2 and 4 before the call's own
-abbrev pub pointsRefusal : ℕ → ℕ → List ℕ → ℕ
-pointsRefusal nv w points = refuse (badCount nv) 1 (refuse (badWidth w) 2 (refuse (shortPoints points) 4 0))
-
--- the same with a row
-abbrev pub pointsRowRefusal : ℕ → ℕ → List ℕ → List ℕ → ℕ
-pointsRowRefusal nv w points row = refuse (badCount nv) 1 (refuse (badWidth w) 2 (refuse (shortPoints points || shortRow row) 4 0))
 
 -- ---- answers by numbers
 -- 01, Turned back: beside a number of the table there is nothing else
@@ -104,6 +72,42 @@ indexReply (answer s) = reply 0 (s .pairs) (markOf (s .cut))
 abbrev pub bankReply : Outcome ℕ → Reply
 bankReply (refused number) = refusedReply number
 bankReply (answer count) = reply 0 count 0
+
+-- 01, Turned back: handing back a row. The place of its first word
+abbrev pub placeReply : Outcome ℕ → Reply
+placeReply (refused number) = refusedReply number
+placeReply (answer place) = reply 0 place 0
+
+-- 01, cobra-simd lib.rs, `gate_matches`
+abbrev pub matchReply : Outcome Bool → Reply
+matchReply (refused number) = refusedReply number
+matchReply (answer true) = reply 1 0 0
+matchReply (answer false) = reply 0 0 0
+
+-- ---- words, costs, rows and points
+-- 01, Turned back: beside a number of the table there are only zeros
+abbrev pub wordReply : Outcome ℕ → WordReply
+wordReply (refused number) = record { refusal = number; word = 0 }
+wordReply (answer word) = record { refusal = 0; word = word }
+
+abbrev pub costReply : CostAnswer → CostReply
+costReply x = record { refusal = x .refusal; size = x .cost .size; products = x .cost .products; depth = x .cost .depth }
+
+abbrev pub rowReply : RowAnswer → RowReply
+rowReply x = record { refusal = x .refusal; row = x .row }
+
+abbrev pub refusedRow : ℕ → RowReply
+refusedRow number = record { refusal = number; row = replicate 16 0 }
+
+-- a number found before the call, else what the call answers
+abbrev pub rowOrElse : ℕ → RowAnswer → RowReply
+rowOrElse number call = unlessRefused number (rowReply call) (refusedRow number)
+
+abbrev pub pointWords : Point → PointWords
+pointWords p = record { words = p .words }
+
+abbrev pub pointsReply : Points → PointsReply
+pointsReply x = record { refusal = x .refusal; points = map pointWords (x .points) }
 
 -- ---- answers beside arrays
 -- 01, Agreed: the result and the final contents of every array: an answer of `build_index` with its own promise, and the reply is that answer by numbers

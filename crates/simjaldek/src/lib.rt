@@ -4,11 +4,20 @@ mod loaders;
 mod replies;
 
 ghost use mathlib.Core.Path.{_≡_};
+ghost use Prim.Native.Nat.{_-_, _*_};
+ghost use Rattle.arith.specs.Word.{modulus};
+ghost use Rattle.arith.specs.Refusal.{refuse, outcome};
+ghost use Rattle.simd.specs.Gates.{applied, residual, matched};
+ghost use Rattle.expr.specs.Answers.{evaluated, costed};
+ghost use Rattle.probe.specs.Points.{madePoints};
+ghost use Rattle.probe.specs.FormulaRow.{probed};
+ghost use Rattle.probe.specs.Fingerprint.{fingerprintOf};
 ghost use Rattle.pool.specs.Pool.{arrays};
-ghost use Rattle.bank.specs.Lookup.{found};
+ghost use Rattle.bank.specs.Lookup.{found, handRefusal};
 ghost use Rattle.index.specs.Build.{arraysOf};
 ghost use Rattle.search.specs.Answer.{product};
-ghost use Rattle.simjaldek.specs.Reply.{rowIn, rowRefusal, orElse, refusedReply, productReply, slotReply, Indexed, Listed, BankReplied};
+ghost use Rattle.simjaldek.specs.Slices.{rowIn, shortRow, rowRefusal, pointsIn, pointsRefusal, gateAt, twoShort, threeShort, gateRefusal};
+ghost use Rattle.simjaldek.specs.Reply.{orElse, rowOrElse, refusedReply, wordReply, costReply, pointsReply, matchReply, placeReply, productReply, slotReply, Indexed, Listed, BankReplied};
 
 // An answer by numbers; all zeros beside a refusal.
 #[repr(C)]
@@ -17,6 +26,42 @@ pub struct Reply {
     pub kind: u32,
     pub a: u32,
     pub b: u32,
+}
+
+// A word; 0 beside a refusal.
+#[repr(C)]
+pub struct WordReply {
+    pub refusal: u32,
+    pub word: u64,
+}
+
+// A cost; zeros beside a refusal.
+#[repr(C)]
+pub struct CostReply {
+    pub refusal: u32,
+    pub size: u32,
+    pub products: u32,
+    pub depth: u32,
+}
+
+// A row; zeros beside a refusal.
+#[repr(C)]
+pub struct RowReply {
+    pub refusal: u32,
+    pub row: [u64; 16],
+}
+
+// A point's six words.
+#[repr(C)]
+pub struct PointWords {
+    pub words: [u64; 6],
+}
+
+// Sixteen points; zeros beside a refusal.
+#[repr(C)]
+pub struct PointsReply {
+    pub refusal: u32,
+    pub points: [PointWords; 16],
 }
 
 // A reply that is only a refusal.
@@ -124,4 +169,164 @@ pub extern "C" fn simjaldek_build_bank(
     let row = simd::inner::load_row(target, 0);
     let built = bank::build_bank(lengths, ops, operands, costs, rows, work, nv, w, at, row);
     replies::of_bank(built)
+}
+
+// `expr::eval`. Refuses 1, 2, 4, 6.
+#[no_mangle]
+pub extern "C" fn simjaldek_eval(
+    nv: u32,
+    w: u32,
+    count: usize,
+    ops: &[u8],
+    operands: &[u64],
+    words: &[u64],
+) -> WordReply
+    ensures { λ r. ⌜ r ≡ wordReply (evaluated nv w count (now (ops .entry)) (now (operands .entry)) (now (words .entry))) ⌝ }
+{
+    replies::of_value(expr::eval(nv, w, count, ops, operands, words))
+}
+
+// `expr::compute_cost`. Refuses 1, 4, 6.
+#[no_mangle]
+pub extern "C" fn simjaldek_compute_cost(
+    nv: u32,
+    count: usize,
+    ops: &[u8],
+    operands: &[u64],
+) -> CostReply
+    ensures { λ r. ⌜ r ≡ costReply (costed nv count (now (ops .entry)) (now (operands .entry))) ⌝ }
+{
+    let x = expr::compute_cost(nv, count, ops, operands);
+    CostReply {
+        refusal: x.refusal,
+        size: x.cost.size,
+        products: x.cost.products,
+        depth: x.cost.depth,
+    }
+}
+
+// `probe::make_probe_points`. Refuses 1, 2.
+#[no_mangle]
+pub extern "C" fn simjaldek_make_probe_points(nv: u32, w: u32) -> PointsReply
+    ensures { λ r. ⌜ r ≡ pointsReply (madePoints nv w) ⌝ }
+{
+    let x = probe::make_probe_points(nv, w);
+    let made = x.points;
+    let points = replies::of_points(made);
+    PointsReply {
+        refusal: x.refusal,
+        points,
+    }
+}
+
+// `probe::probe`, with sixteen points of six words each. Refuses 1, 2, 4, 6.
+#[no_mangle]
+pub extern "C" fn simjaldek_probe(
+    nv: u32,
+    w: u32,
+    points: &[u64],
+    count: usize,
+    ops: &[u8],
+    operands: &[u64],
+) -> RowReply
+    ensures { λ r. ⌜ r ≡ rowOrElse (pointsRefusal nv w (now (points .entry))) (probed nv w (pointsIn (now (points .entry))) count (now (ops .entry)) (now (operands .entry))) ⌝ }
+{
+    let refusal = loaders::points_refusal(nv, w, points);
+    if refusal != 0 {
+        return replies::refused_row(refusal);
+    }
+    let at = loaders::points_of(points);
+    replies::of_row(probe::probe(nv, w, at, count, ops, operands))
+}
+
+// `probe::fingerprint`. Refuses 4.
+#[no_mangle]
+pub extern "C" fn simjaldek_fingerprint(row: &[u64]) -> WordReply
+    ensures { λ r. ⌜ r ≡ wordReply (outcome (refuse (shortRow (now (row .entry))) 4 0) (fingerprintOf (rowIn (now (row .entry))))) ⌝ }
+{
+    if row.len() < simd::ROW_WORDS {
+        return WordReply {
+            refusal: 4,
+            word: 0,
+        };
+    }
+    let words = simd::inner::load_row(row, 0);
+    WordReply {
+        refusal: 0,
+        word: probe::fingerprint(words),
+    }
+}
+
+// `arith::bitmask`.
+#[no_mangle]
+pub extern "C" fn simjaldek_bitmask(w: u32) -> u64
+    ensures { λ r. ⌜ r ≡ modulus w - 1 ⌝ }
+{
+    arith::bitmask(w)
+}
+
+// `simd::gate_apply`, with the gate's number. Refuses 2, 4, and 6 for a number above 4.
+#[no_mangle]
+pub extern "C" fn simjaldek_gate_apply(a: &[u64], b: &[u64], g: u32, w: u32) -> RowReply
+    ensures { λ r. ⌜ r ≡ rowOrElse (gateRefusal w (twoShort (now (a .entry)) (now (b .entry))) g) (applied (gateAt g) w (rowIn (now (a .entry))) (rowIn (now (b .entry)))) ⌝ }
+{
+    let refusal = loaders::gate_refusal(w, loaders::two_short(a, b), g);
+    if refusal != 0 {
+        return replies::refused_row(refusal);
+    }
+    let left = simd::inner::load_row(a, 0);
+    let right = simd::inner::load_row(b, 0);
+    replies::of_row(simd::gate_apply(left, right, loaders::gate_of(g), w))
+}
+
+// `simd::gate_residual`, with the gate's number. Refuses 2, 4, and 6 for a number above 4.
+#[no_mangle]
+pub extern "C" fn simjaldek_gate_residual(target: &[u64], a: &[u64], g: u32, w: u32) -> RowReply
+    ensures { λ r. ⌜ r ≡ rowOrElse (gateRefusal w (twoShort (now (target .entry)) (now (a .entry))) g) (residual (gateAt g) w (rowIn (now (target .entry))) (rowIn (now (a .entry)))) ⌝ }
+{
+    let refusal = loaders::gate_refusal(w, loaders::two_short(target, a), g);
+    if refusal != 0 {
+        return replies::refused_row(refusal);
+    }
+    let whole = simd::inner::load_row(target, 0);
+    let left = simd::inner::load_row(a, 0);
+    replies::of_row(simd::gate_residual(whole, left, loaders::gate_of(g), w))
+}
+
+// `simd::gate_matches`, with the gate's number: kind 1 the same, 0 different. Refuses 2, 4, and 6 for a number above 4.
+#[no_mangle]
+pub extern "C" fn simjaldek_gate_matches(
+    a: &[u64],
+    b: &[u64],
+    target: &[u64],
+    g: u32,
+    w: u32,
+) -> Reply
+    ensures { λ r. ⌜ r ≡ matchReply (orElse (gateRefusal w (threeShort (now (a .entry)) (now (b .entry)) (now (target .entry))) g) (matched (gateAt g) w (rowIn (now (a .entry))) (rowIn (now (b .entry))) (rowIn (now (target .entry))))) ⌝ }
+{
+    let refusal = loaders::gate_refusal(w, loaders::three_short(a, b, target), g);
+    if refusal != 0 {
+        return refused(refusal);
+    }
+    let left = simd::inner::load_row(a, 0);
+    let right = simd::inner::load_row(b, 0);
+    let whole = simd::inner::load_row(target, 0);
+    replies::of_match(simd::gate_matches(left, right, whole, loaders::gate_of(g), w))
+}
+
+// Where `bank::atom_row` begins: the place in words of the first of the slot's sixteen. Refuses 4, 7.
+#[no_mangle]
+pub extern "C" fn simjaldek_atom_row(rows: &[u64], count: usize, slot: u32) -> Reply
+    ensures { λ r. ⌜ r ≡ placeReply (outcome (handRefusal count (now (rows .entry)) slot) (16 * slot)) ⌝ }
+{
+    if rows.len() / simd::ROW_WORDS < count {
+        return refused(4);
+    }
+    if pool::ATOMS_MAX < count {
+        return refused(7);
+    }
+    if count <= slot as usize {
+        return refused(7);
+    }
+    replies::answer(0, 16 * slot, 0)
 }

@@ -2,11 +2,12 @@
 use probe::POINT_WORDS;
 use probe::POINTS;
 use probe::Point;
+use simd::Gate;
 use simd::ROW_WORDS;
 ghost use mathlib.Core.Path.{_≡_};
 ghost use Prim.Native.Nat.{_+_, _*_, _≤_};
 ghost use lib.ListN.{length};
-ghost use Rattle.simjaldek.specs.Reply.{rowRefusal, pointsRefusal, pointsRowRefusal, pointIn, pointsIn};
+ghost use Rattle.simjaldek.specs.Slices.{rowRefusal, pointsRefusal, pointsRowRefusal, pointIn, pointsIn, gateAt, twoShort, threeShort, gateRefusal};
 
 // The refusal of a width and a row, 0 for none.
 pub fn row_refusal(w: u32, row: &[u64]) -> u32
@@ -84,4 +85,57 @@ pub fn points_of(words: &[u64]) -> [Point; 16]
         k += 1;
     }
     points
+}
+
+// Whether one of two rows is short.
+pub fn two_short(a: &[u64], b: &[u64]) -> bool
+    ensures { λ r. ⌜ r ≡ twoShort (now (a .entry)) (now (b .entry)) ⌝ }
+{
+    if a.len() < ROW_WORDS {
+        return true;
+    }
+    b.len() < ROW_WORDS
+}
+
+pub fn three_short(a: &[u64], b: &[u64], c: &[u64]) -> bool
+    ensures { λ r. ⌜ r ≡ threeShort (now (a .entry)) (now (b .entry)) (now (c .entry)) ⌝ }
+{
+    if two_short(a, b) {
+        return true;
+    }
+    c.len() < ROW_WORDS
+}
+
+// The refusal of a width, rows and a gate's number.
+pub fn gate_refusal(w: u32, short: bool, g: u32) -> u32
+    ensures { λ r. ⌜ r ≡ gateRefusal w short g ⌝ }
+{
+    if arith::bad_width(w) {
+        return 2;
+    }
+    if short {
+        return 4;
+    }
+    if 4 < g {
+        return 6;
+    }
+    0
+}
+
+pub fn gate_of(g: u32) -> Gate
+    ensures { λ r. ⌜ r ≡ gateAt g ⌝ }
+{
+    if g == 0 {
+        return Gate::And;
+    }
+    if g == 1 {
+        return Gate::Or;
+    }
+    if g == 2 {
+        return Gate::Xor;
+    }
+    if g == 3 {
+        return Gate::Add;
+    }
+    Gate::Mul
 }

@@ -1,20 +1,30 @@
 // The answers that are enums, as replies.
+use crate::PointWords;
 use crate::Reply;
+use crate::RowReply;
+use crate::WordReply;
 use bank::BankAnswer;
 use bank::FoundRow;
 use candidates::CandidatesAnswer;
+use expr::Value;
 use index::IndexAnswer;
+use probe::Point;
 use search::ProductAnswer;
+use simd::Match;
+use simd::RowAnswer;
 ghost use mathlib.Core.Path.{_≡_};
+ghost use mathlib.Core.List.{map};
+ghost use Rattle.simd.specs.Gates.{matchSays};
+ghost use Rattle.expr.specs.Answers.{valueSays};
 ghost use Rattle.bank.specs.Build.{bankSays};
 ghost use Rattle.bank.specs.Lookup.{foundSays};
 ghost use Rattle.candidates.specs.Candidates.{candidatesSay};
 ghost use Rattle.index.specs.Build.{indexSays};
 ghost use Rattle.search.specs.Answer.{productSays};
-ghost use Rattle.simjaldek.specs.Reply.{reply, markOf, bankReply, indexReply, productReply, slotReply, candidatesReply};
+ghost use Rattle.simjaldek.specs.Reply.{reply, markOf, bankReply, indexReply, productReply, slotReply, candidatesReply, matchReply, wordReply, rowReply, refusedRow, pointWords};
 
 // A reply that is no refusal.
-fn answer(kind: u32, a: u32, b: u32) -> Reply
+pub fn answer(kind: u32, a: u32, b: u32) -> Reply
     ensures { λ r. ⌜ r ≡ reply kind a b ⌝ }
 {
     Reply {
@@ -81,4 +91,56 @@ pub fn of_candidates(x: CandidatesAnswer) -> Reply
         CandidatesAnswer::NotUsed => answer(0, 0, 0),
         CandidatesAnswer::Refused(number) => crate::refused(number),
     }
+}
+
+pub fn of_match(x: Match) -> Reply
+    ensures { λ r. ⌜ r ≡ matchReply (matchSays x) ⌝ }
+{
+    match x {
+        Match::Same => answer(1, 0, 0),
+        Match::Different => answer(0, 0, 0),
+        Match::Refused(number) => crate::refused(number),
+    }
+}
+
+pub fn of_value(x: Value) -> WordReply
+    ensures { λ r. ⌜ r ≡ wordReply (valueSays x) ⌝ }
+{
+    match x {
+        Value::Word(word) => WordReply { refusal: 0, word },
+        Value::Refused(refusal) => WordReply { refusal, word: 0 },
+    }
+}
+
+pub fn of_row(x: RowAnswer) -> RowReply
+    ensures { λ r. ⌜ r ≡ rowReply x ⌝ }
+{
+    let row = x.row;
+    RowReply {
+        refusal: x.refusal,
+        row,
+    }
+}
+
+// Zeros beside a refusal.
+pub fn refused_row(refusal: u32) -> RowReply
+    ensures { λ r. ⌜ r ≡ refusedRow refusal ⌝ }
+{
+    let row = [0u64; 16];
+    RowReply { refusal, row }
+}
+
+pub fn of_points(made: [Point; 16]) -> [PointWords; 16]
+    ensures { λ r. ⌜ r ≡ map pointWords made ⌝ }
+{
+    let mut points = [PointWords { words: [0; 6] }; 16];
+    let mut k: usize = 0;
+    while k < 16 {
+        let p = made[k];
+        let words = p.words;
+        let q = PointWords { words };
+        points[k] = q;
+        k += 1;
+    }
+    points
 }

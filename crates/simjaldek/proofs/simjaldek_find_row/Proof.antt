@@ -5,7 +5,8 @@ use mathlib.Core.Option.{Option}
 use Prim.Native.Nat.{ℕ}
 use Rattle.arith.specs.Refusal.{Outcome}
 use Rattle.bank.specs.Lookup.{found}
-use Rattle.simjaldek.specs.Reply.{rowIn, rowRefusal, slotReply}
+use Rattle.simjaldek.specs.Slices.{rowIn, rowRefusal}
+use Rattle.simjaldek.specs.Reply.{slotReply}
 use Rattle.simjaldek.proofs.Early.{told-early, told-call, row-long}
 use native.Mathlib.Omega.{arith}
 use borrow.Author.Needs.{needs}

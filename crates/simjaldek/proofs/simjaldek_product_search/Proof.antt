@@ -6,7 +6,8 @@ use Prim.Native.Nat.{ℕ}
 use Rattle.arith.specs.Refusal.{Outcome}
 use Rattle.product.specs.Trying.{Product}
 use Rattle.search.specs.Answer.{product}
-use Rattle.simjaldek.specs.Reply.{rowIn, rowRefusal, productReply}
+use Rattle.simjaldek.specs.Slices.{rowIn, rowRefusal}
+use Rattle.simjaldek.specs.Reply.{productReply}
 use Rattle.simjaldek.proofs.Early.{told-early, told-call, row-long}
 use native.Mathlib.Omega.{arith}
 use borrow.Author.Needs.{needs}

@@ -4,7 +4,7 @@ use mathlib.Core.List.{_++_, append-nil}
 use Prim.Native.Nat.{ℕ, _+_, _-_, _≤_}
 use lib.ListN.{length, take, length-set}
 use lib.Seq.{take-all}
-use Rattle.simjaldek.specs.Reply.{pointsFrom, pointsIn}
+use Rattle.simjaldek.specs.Slices.{pointsFrom, pointsIn}
 use Rattle.simjaldek.proofs.Loading.{point-more}
 use borrow.Author.Needs.{needs}
 use native.Mathlib.Omega.{arith}

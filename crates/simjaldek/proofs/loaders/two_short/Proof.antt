@@ -1,0 +1,16 @@
+-- `loaders::two_short` meets its contract. Assumes nothing.
+use mathlib.Core.Path.{refl, sym}
+use borrow.Author.Tests.{lt-ltb, le-ltb}
+use Rattle.arith.proofs.Refusals.{or-here, or-later}
+use borrow.Author.Needs.{needs}
+use Rattle.simjaldek.proofs.loaders.two_short.Statement.{statement}
+use Rattle.simjaldek.proofs.loaders.two_short.Tie as tie
+
+returns : tie.Need-returns
+returns c = sym (or-here _ (lt-ltb _ _ (c .if1 .taken)))
+
+returns-2 : tie.Need-returns-2
+returns-2 c = sym (or-later (le-ltb _ _ (c .if1 .left)) refl)
+
+pub two-short-spec : {M : Type 1} → statement M
+two-short-spec = tie.close (tie.spec returns returns-2)
