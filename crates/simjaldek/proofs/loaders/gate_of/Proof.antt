@@ -2,7 +2,6 @@
 use mathlib.Core.Path.{sym, ap}
 use Rattle.simjaldek.specs.Slices.{gateAt}
 use Rattle.simjaldek.proofs.Early.{gate-high}
-use borrow.Author.Needs.{needs}
 use native.Mathlib.Omega.{arith}
 use Rattle.simjaldek.proofs.loaders.gate_of.Statement.{statement}
 use Rattle.simjaldek.proofs.loaders.gate_of.Tie as tie

@@ -1,7 +1,7 @@
 -- `loaders::points_of` meets its contract: the points loaded and those still to come are the sixteen. Assumes nothing.
 use mathlib.Core.Path.{_≡_, refl, sym, ap, _∙_}
 use mathlib.Core.List.{_++_, append-nil}
-use Prim.Native.Nat.{ℕ, _+_, _-_, _≤_}
+use Prim.Native.Nat.{ℕ, _-_, _≤_}
 use lib.ListN.{length, take, length-set}
 use lib.Seq.{take-all}
 use Rattle.simjaldek.specs.Slices.{pointsFrom, pointsIn}

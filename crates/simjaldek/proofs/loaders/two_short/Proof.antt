@@ -2,7 +2,6 @@
 use mathlib.Core.Path.{refl, sym}
 use borrow.Author.Tests.{lt-ltb, le-ltb}
 use Rattle.arith.proofs.Refusals.{or-here, or-later}
-use borrow.Author.Needs.{needs}
 use Rattle.simjaldek.proofs.loaders.two_short.Statement.{statement}
 use Rattle.simjaldek.proofs.loaders.two_short.Tie as tie
 
