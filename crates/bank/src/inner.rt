@@ -20,12 +20,12 @@ pub fn row_reaches(row: [u64; 16], w: u32) -> bool
     ensures { λ r. ⌜ r ≡ reaches (2 ^ w) row ⌝ }
 {
     let mask = arith::bitmask(w);
-    let mut k: usize = 0;
-    while k < simd::ROW_WORDS {
-        if mask < row[k] {
+    let mut j: usize = 0;
+    while j < simd::ROW_WORDS {
+        if mask < row[j] {
             return true;
         }
-        k += 1;
+        j += 1;
     }
     false
 }

@@ -12,10 +12,10 @@ use Rattle.bank.proofs.inner.row_reaches.Statement.{statement}
 use Rattle.bank.proofs.inner.row_reaches.Tie as tie
 
 abbrev Inv-loop : tie.InvT-loop
-Inv-loop w row mask k₀ k = (k ≤ 16) × ((mask ≡ modulus w - 1) × (reaches (2 ^ w) (drop k row) ≡ reaches (2 ^ w) row))
+Inv-loop w row mask j₀ j = (j ≤ 16) × ((mask ≡ modulus w - 1) × (reaches (2 ^ w) (drop j row) ≡ reaches (2 ^ w) row))
 
 abbrev μ-loop : tie.MeasureT-loop
-μ-loop w row mask k₀ k = 16 - k
+μ-loop w row mask j₀ j = 16 - j
 
 bitmask-requires : tie.Need-bitmask-requires Inv-loop μ-loop
 bitmask-requires c κs = search needs
@@ -33,10 +33,10 @@ returns : tie.Need-returns Inv-loop μ-loop
 returns c =
     let t = c .before .before in
     let s = t .before .before in
-    sym (sym (t .loop .inv .1 .1) ∙ reaches-here (2 ^ s .args .w) (s .args .t1) (t .loop .k) (search needs) (mask-lt (s .args .w) _ _ (s .pre) (t .loop .inv .1 .0) (c .if1 .taken)))
+    sym (sym (t .loop .inv .1 .1) ∙ reaches-here (2 ^ s .args .w) (s .args .t1) (t .loop .j) (search needs) (mask-lt (s .args .w) _ _ (s .pre) (t .loop .inv .1 .0) (c .if1 .taken)))
 
-add-k : tie.Need-add-k Inv-loop μ-loop
-add-k c = search needs
+add-j : tie.Need-add-j Inv-loop μ-loop
+add-j c = search needs
 
 loop-less : tie.Need-loop-less Inv-loop μ-loop
 loop-less c = search needs
@@ -48,7 +48,7 @@ loop-again c =
       omega arith,
       (
         t .loop .inv .1 .0,
-        sym (reaches-later (2 ^ s .args .w) (s .args .t1) (t .loop .k) (search needs) (mask-le (s .args .w) _ _ (s .pre) (t .loop .inv .1 .0) (c .if1 .left))) ∙ t .loop .inv .1 .1,
+        sym (reaches-later (2 ^ s .args .w) (s .args .t1) (t .loop .j) (search needs) (mask-le (s .args .w) _ _ (s .pre) (t .loop .inv .1 .0) (c .if1 .left))) ∙ t .loop .inv .1 .1,
       ),
     )
 
@@ -56,7 +56,7 @@ returns-2 : tie.Need-returns-2 Inv-loop μ-loop
 returns-2 c =
     let t = c .before in
     let s = t .before .before in
-    sym (sym (t .loop .inv .1 .1) ∙ reaches-none (2 ^ s .args .w) (s .args .t1) (t .loop .k) (search needs))
+    sym (sym (t .loop .inv .1 .1) ∙ reaches-none (2 ^ s .args .w) (s .args .t1) (t .loop .j) (search needs))
 
 pub row-reaches-spec : {M : Type 1} → statement M
 row-reaches-spec =
@@ -69,7 +69,7 @@ row-reaches-spec =
     mul-if1
     array-read-if1
     returns
-    add-k
+    add-j
     loop-less
     loop-again
     returns-2)
