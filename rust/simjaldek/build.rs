@@ -1,6 +1,6 @@
 //! Links the static library `libsimjaldek.a`.
 //!
-//! `SIMJALDEK_LIB_DIR` names a folder that holds a ready archive. Without it `rt staticlib simjaldek` runs at the repository's root,
+//! `SIMJALDEK_LIB_DIR` names, by its full path, a folder that holds a ready archive. Without it `rt staticlib simjaldek` runs at the repository's root,
 //! which proves what has changed since it was last proved, and the archive that it names is linked.
 
 use std::env;
@@ -17,10 +17,17 @@ fn main() {
     let target = env::var("CARGO_CFG_TARGET_ARCH").expect("cargo sets CARGO_CFG_TARGET_ARCH");
     assert!(target == "x86_64", "{ARCHIVE} holds x86-64 code");
     let archive = match env::var_os("SIMJALDEK_LIB_DIR") {
-        Some(folder) if !folder.is_empty() => Path::new(&folder).join(ARCHIVE),
+        Some(folder) if !folder.is_empty() => ready_archive(Path::new(&folder)),
         _ => made_archive(),
     };
     link(&archive);
+}
+
+/// The archive of a folder.
+fn ready_archive(folder: &Path) -> PathBuf {
+    let archive = folder.join(ARCHIVE);
+    println!("cargo:rerun-if-changed={}", archive.display());
+    archive
 }
 
 /// Has `rt` make the archive, and gives its place.
@@ -47,12 +54,11 @@ fn made_archive() -> PathBuf {
     root.join(named.unwrap_or_else(|| panic!("rt staticlib simjaldek names no archive:\n{said}")))
 }
 
-/// Tells cargo to link the archive.
+/// Tells cargo to link a copy of the archive, since `rt ci` removes the folder that `rt` writes to.
 fn link(archive: &Path) {
-    let full =
-        fs::canonicalize(archive).unwrap_or_else(|error| panic!("{}: {error}", archive.display()));
-    let folder = full.parent().expect("a file has a folder");
-    println!("cargo:rerun-if-changed={}", full.display());
-    println!("cargo:rustc-link-search=native={}", folder.display());
+    let out = PathBuf::from(env::var_os("OUT_DIR").expect("cargo sets OUT_DIR"));
+    fs::copy(archive, out.join(ARCHIVE))
+        .unwrap_or_else(|error| panic!("no archive at {}: {error}", archive.display()));
+    println!("cargo:rustc-link-search=native={}", out.display());
     println!("cargo:rustc-link-lib=static=simjaldek");
 }

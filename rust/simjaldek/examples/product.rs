@@ -6,13 +6,25 @@ use simjaldek::{
 };
 use std::env;
 use std::error::Error;
+use std::process::ExitCode;
 
 const NUM_VARS: u32 = 2;
 const WIDTH: u32 = 32;
 
-fn main() -> Result<(), Box<dyn Error>> {
+fn main() -> ExitCode {
     let text = env::args().nth(1);
-    let long: FormulaBuf = text.as_deref().unwrap_or("v0 v0 * v0 v1 * +").parse()?;
+    match run(text.as_deref().unwrap_or("v0 v0 * v0 v1 * +")) {
+        Ok(()) => ExitCode::SUCCESS,
+        Err(error) => {
+            eprintln!("{error}");
+            ExitCode::FAILURE
+        }
+    }
+}
+
+/// Prints the sizes of bank and index, the formula, and the product that was found.
+fn run(text: &str) -> Result<(), Box<dyn Error>> {
+    let long: FormulaBuf = text.parse()?;
     let points = probe_points(NUM_VARS, WIDTH)?;
     let target = probe_row(NUM_VARS, WIDTH, &points, long.as_formula())?;
     let bank = Bank::build(NUM_VARS, WIDTH, &points, &target)?;

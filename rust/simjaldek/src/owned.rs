@@ -16,11 +16,6 @@ fn part<T>(array: &[T], size: usize, slot: u32) -> Option<&[T]> {
     array.chunks_exact(size).nth(slot as usize)
 }
 
-/// Row `slot` of rows one after the other, if it is there.
-fn row_at(rows: &[u64], slot: u32) -> Option<&Row> {
-    part(rows, ROW_WORDS, slot)?.try_into().ok()
-}
-
 /// A bank of atoms: formulas of weighted size at most 6, no two with one row.
 #[derive(Clone, Debug, PartialEq, Eq)]
 pub struct Bank {
@@ -105,7 +100,7 @@ impl Bank {
 
     /// An atom's row; none for a slot that is not below the count.
     pub fn row(&self, slot: AtomSlot) -> Option<&Row> {
-        row_at(&self.rows, slot.0)
+        lent::atom_row(self.lend(), slot).ok()?.try_into().ok()
     }
 
     /// The least slot with this row, or none. Refuses 2, 5.
@@ -194,7 +189,7 @@ impl Index {
 
     /// A pair's row; none for a slot that is not below the count.
     pub fn row(&self, slot: PairSlot) -> Option<&Row> {
-        row_at(&self.rows, slot.0)
+        part(&self.rows, ROW_WORDS, slot.0)?.try_into().ok()
     }
 
     /// The order list: all slots, ascending by (first row word, slot).
