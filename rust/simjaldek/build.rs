@@ -1,7 +1,7 @@
 //! Links the static library `libsimjaldek.a`.
 //!
-//! `SIMJALDEK_LIB_DIR` names, by its full path, a folder that holds a ready archive. Without it `rt staticlib simjaldek` runs at the repository's root,
-//! which proves what has changed since it was last proved, and the archive that it names is linked.
+//! `SIMJALDEK_LIB_DIR` names, by its full path, a folder that holds a ready archive. Without it `rt staticlib simjaldek` runs at
+//! the repository's root, which proves what has changed since it was last proved, and the archive that it names is linked.
 
 use std::env;
 use std::fs;

@@ -1,8 +1,6 @@
 //! The exported functions of crates/simjaldek/src/lib.rt as they are: declarations only, in that file's order.
 //!
-//! A slice goes as its pointer and its length. Nothing checks these lines against the Rattle source: a change there is a change here.
-
-use crate::{Point, Row};
+//! A slice goes as its pointer and its length. tests/declarations.rs compares these lines with the Rattle source.
 
 /// An answer by numbers; all zeros beside a refusal.
 #[repr(C)]
@@ -33,14 +31,20 @@ pub struct CostReply {
 #[repr(C)]
 pub struct RowReply {
     pub refusal: u32,
-    pub row: Row,
+    pub row: [u64; 16],
 }
 
-/// Sixteen points; zeros beside a refusal. The source's `PointWords`, a struct of one array, lies in memory as that array.
+/// A point's six words.
+#[repr(C)]
+pub struct PointWords {
+    pub words: [u64; 6],
+}
+
+/// Sixteen points; zeros beside a refusal.
 #[repr(C)]
 pub struct PointsReply {
     pub refusal: u32,
-    pub points: [Point; 16],
+    pub points: [PointWords; 16],
 }
 
 extern "C" {

@@ -285,7 +285,7 @@ pub fn compute_cost(num_vars: u32, formula: Tokens<'_>) -> Result<Cost, Refusal>
 pub fn probe_points(num_vars: u32, width: u32) -> Result<[Point; 16], Refusal> {
     // SAFETY: the function takes numbers only.
     let reply = unsafe { ffi::simjaldek_make_probe_points(num_vars, width) };
-    unless_refused(reply.refusal, reply.points)
+    unless_refused(reply.refusal, reply.points.map(|point| point.words))
 }
 
 /// The row of a formula: its values at sixteen points of six words each. Refuses 1, 2, 4, 6.

@@ -209,8 +209,8 @@ impl Index {
 
 /// The first product of two atoms, else of an atom and a pair, that is the target. Refuses 2, 5.
 ///
-/// With an uncut index of the bank and the width, [`Product::Nothing`] says that no product of an atom with an atom, or with a
-/// gate of two atoms, is the target.
+/// An atom stands for its row. With an uncut index of the bank and the width, [`Product::Nothing`] says that no product of an atom
+/// with an atom, or with a gate of two atoms, is the target modulo 2^w.
 pub fn product_search(
     bank: &Bank,
     index: &Index,
