@@ -24,7 +24,7 @@ pub const FILL: u8 = 0x5A;
 pub const FILL_U32: u32 = 0x5A5A_5A5A;
 pub const FILL_U64: u64 = 0x5A5A_5A5A_5A5A_5A5A;
 
-/// Buffers of a bank build, as long as asked for.
+/// Buffers of a bank build, as long as it needs.
 #[derive(Clone, Debug, PartialEq)]
 pub struct BankBuffers {
     pub lengths: Vec<u32>,
@@ -59,7 +59,7 @@ impl BankBuffers {
     }
 }
 
-/// Buffers of an index build.
+/// Buffers of an index build of a limit.
 #[derive(Clone, Debug, PartialEq)]
 pub struct IndexBuffers {
     pub pairs: Vec<u32>,
