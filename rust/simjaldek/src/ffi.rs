@@ -1,0 +1,193 @@
+//! The exported functions of crates/simjaldek/src/lib.rt as they are: declarations only, in that file's order.
+//!
+//! A slice goes as its pointer and its length. tests/declarations.rs compares these lines with the Rattle source.
+
+/// An answer by numbers; all zeros beside a refusal.
+#[repr(C)]
+pub struct Reply {
+    pub refusal: u32,
+    pub kind: u32,
+    pub a: u32,
+    pub b: u32,
+}
+
+/// A word; 0 beside a refusal.
+#[repr(C)]
+pub struct WordReply {
+    pub refusal: u32,
+    pub word: u64,
+}
+
+/// A cost; zeros beside a refusal.
+#[repr(C)]
+pub struct CostReply {
+    pub refusal: u32,
+    pub size: u32,
+    pub products: u32,
+    pub depth: u32,
+}
+
+/// A row; zeros beside a refusal.
+#[repr(C)]
+pub struct RowReply {
+    pub refusal: u32,
+    pub row: [u64; 16],
+}
+
+/// A point's six words.
+#[repr(C)]
+pub struct PointWords {
+    pub words: [u64; 6],
+}
+
+/// Sixteen points; zeros beside a refusal.
+#[repr(C)]
+pub struct PointsReply {
+    pub refusal: u32,
+    pub points: [PointWords; 16],
+}
+
+extern "C" {
+    pub fn simjaldek_product_search(
+        w: u32,
+        count: usize,
+        atoms: *const u64,
+        atoms_len: usize,
+        pairs: usize,
+        listed: *const u64,
+        listed_len: usize,
+        slots: *const u32,
+        slots_len: usize,
+        target: *const u64,
+        target_len: usize,
+    ) -> Reply;
+
+    pub fn simjaldek_find_row(
+        w: u32,
+        count: usize,
+        rows: *const u64,
+        rows_len: usize,
+        row: *const u64,
+        row_len: usize,
+    ) -> Reply;
+
+    pub fn simjaldek_build_index(
+        w: u32,
+        count: usize,
+        rows: *const u64,
+        rows_len: usize,
+        limit: usize,
+        pairs: *mut u32,
+        pairs_len: usize,
+        listed: *mut u64,
+        listed_len: usize,
+        slots: *mut u32,
+        slots_len: usize,
+        work: *mut u32,
+        work_len: usize,
+    ) -> Reply;
+
+    pub fn simjaldek_collect_mul_probe0_candidates(
+        w: u32,
+        pairs: usize,
+        listed: *const u64,
+        listed_len: usize,
+        slots: *const u32,
+        slots_len: usize,
+        p: u64,
+        t: u64,
+        list: *mut u32,
+        list_len: usize,
+    ) -> Reply;
+
+    pub fn simjaldek_build_bank(
+        lengths: *mut u32,
+        lengths_len: usize,
+        ops: *mut u8,
+        ops_len: usize,
+        operands: *mut u64,
+        operands_len: usize,
+        costs: *mut u32,
+        costs_len: usize,
+        rows: *mut u64,
+        rows_len: usize,
+        work: *mut u32,
+        work_len: usize,
+        nv: u32,
+        w: u32,
+        points: *const u64,
+        points_len: usize,
+        target: *const u64,
+        target_len: usize,
+    ) -> Reply;
+
+    pub fn simjaldek_eval(
+        nv: u32,
+        w: u32,
+        count: usize,
+        ops: *const u8,
+        ops_len: usize,
+        operands: *const u64,
+        operands_len: usize,
+        words: *const u64,
+        words_len: usize,
+    ) -> WordReply;
+
+    pub fn simjaldek_compute_cost(
+        nv: u32,
+        count: usize,
+        ops: *const u8,
+        ops_len: usize,
+        operands: *const u64,
+        operands_len: usize,
+    ) -> CostReply;
+
+    pub fn simjaldek_make_probe_points(nv: u32, w: u32) -> PointsReply;
+
+    pub fn simjaldek_probe(
+        nv: u32,
+        w: u32,
+        points: *const u64,
+        points_len: usize,
+        count: usize,
+        ops: *const u8,
+        ops_len: usize,
+        operands: *const u64,
+        operands_len: usize,
+    ) -> RowReply;
+
+    pub fn simjaldek_fingerprint(row: *const u64, row_len: usize) -> WordReply;
+
+    pub fn simjaldek_bitmask(w: u32) -> u64;
+
+    pub fn simjaldek_gate_apply(
+        a: *const u64,
+        a_len: usize,
+        b: *const u64,
+        b_len: usize,
+        g: u32,
+        w: u32,
+    ) -> RowReply;
+
+    pub fn simjaldek_gate_residual(
+        target: *const u64,
+        target_len: usize,
+        a: *const u64,
+        a_len: usize,
+        g: u32,
+        w: u32,
+    ) -> RowReply;
+
+    pub fn simjaldek_gate_matches(
+        a: *const u64,
+        a_len: usize,
+        b: *const u64,
+        b_len: usize,
+        target: *const u64,
+        target_len: usize,
+        g: u32,
+        w: u32,
+    ) -> Reply;
+
+    pub fn simjaldek_atom_row(rows: *const u64, rows_len: usize, count: usize, slot: u32) -> Reply;
+}

@@ -1,0 +1,384 @@
+//! The calls over borrowed slices, for callers with buffers of their own. Every length, count and number may be handed in:
+//! what is unfit is refused, and then no buffer has changed. Places beyond the counts stay as they were.
+//!
+//! All unsafe code of this crate stands here: one block for each exported function.
+
+#![allow(unsafe_code)]
+
+use crate::ffi;
+use crate::{AtomSlot, Cost, PairSlot, Point, Product, Refusal, Row, ATOMS_MAX, ROW_WORDS};
+
+/// Atoms' rows: `count` atoms, sixteen words each in `rows`.
+#[derive(Clone, Copy, Debug)]
+pub struct Atoms<'a> {
+    /// How many atoms are claimed.
+    pub count: usize,
+    /// Their rows, one after the other.
+    pub rows: &'a [u64],
+}
+
+/// Pairs' rows and their order list: `count` pairs.
+#[derive(Clone, Copy, Debug)]
+pub struct Pairs<'a> {
+    /// How many pairs are claimed.
+    pub count: usize,
+    /// Their rows, one after the other.
+    pub rows: &'a [u64],
+    /// All pair slots, ascending by (first row word, slot).
+    pub order: &'a [u32],
+}
+
+/// A formula: the first `count` tokens of two arrays.
+#[derive(Clone, Copy, Debug)]
+pub struct Tokens<'a> {
+    /// How many tokens.
+    pub count: usize,
+    /// Opcodes.
+    pub ops: &'a [u8],
+    /// Operands.
+    pub operands: &'a [u64],
+}
+
+/// The arrays that a bank is built into.
+#[derive(Debug)]
+pub struct BankArrays<'a> {
+    /// Tokens of each atom: 479 places.
+    pub lengths: &'a mut [u32],
+    /// 6 opcodes for each of 479 atoms; 255 where there is no token.
+    pub ops: &'a mut [u8],
+    /// 6 operands for each of 479 atoms.
+    pub operands: &'a mut [u64],
+    /// Size, products and depth of each of 479 atoms.
+    pub costs: &'a mut [u32],
+    /// 16 words for each of 479 atoms.
+    pub rows: &'a mut [u64],
+    /// [`work_len`] of 0 places; what is left in them is of no meaning.
+    pub work: &'a mut [u32],
+}
+
+/// The arrays that an index of at most L pairs is built into.
+#[derive(Debug)]
+pub struct IndexArrays<'a> {
+    /// Gate, b and c of each pair: 3 × L places.
+    pub pairs: &'a mut [u32],
+    /// 16 words for each of L pairs.
+    pub rows: &'a mut [u64],
+    /// The order list: L places.
+    pub order: &'a mut [u32],
+    /// [`work_len`] of L places; what is left in them is of no meaning.
+    pub work: &'a mut [u32],
+}
+
+/// What an index build answers.
+#[derive(Clone, Copy, Debug, PartialEq, Eq)]
+pub struct Built {
+    /// How many pairs are listed.
+    pub pairs: usize,
+    /// Whether a new row found no place.
+    pub cut: bool,
+}
+
+/// The places of a work area for a limit L (0 for a bank build): 4 × (L + 479).
+pub fn work_len(limit: usize) -> usize {
+    limit.saturating_add(ATOMS_MAX).saturating_mul(4)
+}
+
+/// An answer, unless its number is one of the table.
+fn unless_refused<T>(refusal: u32, answer: T) -> Result<T, Refusal> {
+    match refusal {
+        0 => Ok(answer),
+        number => Err(Refusal::from_number(number)),
+    }
+}
+
+/// The first product of two atoms, else of an atom and a pair, that is the target. Refuses 2, 4, 5, 7, 8.
+pub fn product_search(
+    width: u32,
+    atoms: Atoms<'_>,
+    pairs: Pairs<'_>,
+    target: &[u64],
+) -> Result<Product, Refusal> {
+    // SAFETY: each pointer comes with its own slice's length; the function reads within these lengths and keeps no pointer.
+    let reply = unsafe {
+        ffi::simjaldek_product_search(
+            width,
+            atoms.count,
+            atoms.rows.as_ptr(),
+            atoms.rows.len(),
+            pairs.count,
+            pairs.rows.as_ptr(),
+            pairs.rows.len(),
+            pairs.order.as_ptr(),
+            pairs.order.len(),
+            target.as_ptr(),
+            target.len(),
+        )
+    };
+    let product = match reply.kind {
+        1 => Product::Atoms(AtomSlot(reply.a), AtomSlot(reply.b)),
+        2 => Product::AtomPair(AtomSlot(reply.a), PairSlot(reply.b)),
+        _ => Product::Nothing,
+    };
+    unless_refused(reply.refusal, product)
+}
+
+/// The least slot whose row is `row`, or none. Refuses 2, 4, 5, 7.
+pub fn find_row(width: u32, atoms: Atoms<'_>, row: &[u64]) -> Result<Option<AtomSlot>, Refusal> {
+    // SAFETY: each pointer comes with its own slice's length; the function reads within these lengths and keeps no pointer.
+    let reply = unsafe {
+        ffi::simjaldek_find_row(
+            width,
+            atoms.count,
+            atoms.rows.as_ptr(),
+            atoms.rows.len(),
+            row.as_ptr(),
+            row.len(),
+        )
+    };
+    let slot = (reply.kind == 1).then_some(AtomSlot(reply.a));
+    unless_refused(reply.refusal, slot)
+}
+
+/// Lists the pairs of the atoms' rows, at most `limit`, with their rows and the order list. Refuses 2, 3, 4, 7.
+pub fn build_index(
+    width: u32,
+    atoms: Atoms<'_>,
+    limit: usize,
+    arrays: IndexArrays<'_>,
+) -> Result<Built, Refusal> {
+    // SAFETY: each pointer comes with its own slice's length; the function stays within these lengths and keeps no pointer. The
+    // written slices are `&mut`, so they overlap nothing.
+    let reply = unsafe {
+        ffi::simjaldek_build_index(
+            width,
+            atoms.count,
+            atoms.rows.as_ptr(),
+            atoms.rows.len(),
+            limit,
+            arrays.pairs.as_mut_ptr(),
+            arrays.pairs.len(),
+            arrays.rows.as_mut_ptr(),
+            arrays.rows.len(),
+            arrays.order.as_mut_ptr(),
+            arrays.order.len(),
+            arrays.work.as_mut_ptr(),
+            arrays.work.len(),
+        )
+    };
+    let built = Built {
+        pairs: reply.a as usize,
+        cut: reply.b == 1,
+    };
+    unless_refused(reply.refusal, built)
+}
+
+/// Writes the slots whose first word f has p × f = t modulo 2^w into `list`, in order-list order, and gives their count; none
+/// for "not used", which writes nothing. `list` has a place for each pair. Refuses 2, 4, 5, 7, 8.
+pub fn candidates(
+    width: u32,
+    pairs: Pairs<'_>,
+    p: u64,
+    t: u64,
+    list: &mut [u32],
+) -> Result<Option<usize>, Refusal> {
+    // SAFETY: each pointer comes with its own slice's length; the function stays within these lengths and keeps no pointer. The
+    // written slice is `&mut`, so it overlaps nothing.
+    let reply = unsafe {
+        ffi::simjaldek_collect_mul_probe0_candidates(
+            width,
+            pairs.count,
+            pairs.rows.as_ptr(),
+            pairs.rows.len(),
+            pairs.order.as_ptr(),
+            pairs.order.len(),
+            p,
+            t,
+            list.as_mut_ptr(),
+            list.len(),
+        )
+    };
+    let count = (reply.kind == 1).then_some(reply.a as usize);
+    unless_refused(reply.refusal, count)
+}
+
+/// Builds a bank over sixteen points of six words each, with the target's seeds: the count of atoms. Refuses 1, 2, 4, 5.
+pub fn build_bank(
+    num_vars: u32,
+    width: u32,
+    points: &[u64],
+    target: &[u64],
+    arrays: BankArrays<'_>,
+) -> Result<usize, Refusal> {
+    // SAFETY: each pointer comes with its own slice's length; the function stays within these lengths and keeps no pointer. The
+    // written slices are `&mut`, so they overlap nothing.
+    let reply = unsafe {
+        ffi::simjaldek_build_bank(
+            arrays.lengths.as_mut_ptr(),
+            arrays.lengths.len(),
+            arrays.ops.as_mut_ptr(),
+            arrays.ops.len(),
+            arrays.operands.as_mut_ptr(),
+            arrays.operands.len(),
+            arrays.costs.as_mut_ptr(),
+            arrays.costs.len(),
+            arrays.rows.as_mut_ptr(),
+            arrays.rows.len(),
+            arrays.work.as_mut_ptr(),
+            arrays.work.len(),
+            num_vars,
+            width,
+            points.as_ptr(),
+            points.len(),
+            target.as_ptr(),
+            target.len(),
+        )
+    };
+    unless_refused(reply.refusal, reply.a as usize)
+}
+
+/// The value of a formula modulo 2^w, with a word for each variable. Refuses 1, 2, 4, 6.
+pub fn evaluate(
+    num_vars: u32,
+    width: u32,
+    formula: Tokens<'_>,
+    words: &[u64],
+) -> Result<u64, Refusal> {
+    // SAFETY: each pointer comes with its own slice's length; the function reads within these lengths and keeps no pointer.
+    let reply = unsafe {
+        ffi::simjaldek_eval(
+            num_vars,
+            width,
+            formula.count,
+            formula.ops.as_ptr(),
+            formula.ops.len(),
+            formula.operands.as_ptr(),
+            formula.operands.len(),
+            words.as_ptr(),
+            words.len(),
+        )
+    };
+    unless_refused(reply.refusal, reply.word)
+}
+
+/// The cost of a formula. Refuses 1, 4, 6.
+pub fn compute_cost(num_vars: u32, formula: Tokens<'_>) -> Result<Cost, Refusal> {
+    // SAFETY: each pointer comes with its own slice's length; the function reads within these lengths and keeps no pointer.
+    let reply = unsafe {
+        ffi::simjaldek_compute_cost(
+            num_vars,
+            formula.count,
+            formula.ops.as_ptr(),
+            formula.ops.len(),
+            formula.operands.as_ptr(),
+            formula.operands.len(),
+        )
+    };
+    let cost = Cost {
+        size: reply.size,
+        products: reply.products,
+        depth: reply.depth,
+    };
+    unless_refused(reply.refusal, cost)
+}
+
+/// The sixteen points that splitmix64 gives. Refuses 1, 2.
+pub fn probe_points(num_vars: u32, width: u32) -> Result<[Point; 16], Refusal> {
+    // SAFETY: the function takes numbers only.
+    let reply = unsafe { ffi::simjaldek_make_probe_points(num_vars, width) };
+    unless_refused(reply.refusal, reply.points.map(|point| point.words))
+}
+
+/// The row of a formula: its values at sixteen points of six words each. Refuses 1, 2, 4, 6.
+pub fn probe_row(
+    num_vars: u32,
+    width: u32,
+    points: &[u64],
+    formula: Tokens<'_>,
+) -> Result<Row, Refusal> {
+    // SAFETY: each pointer comes with its own slice's length; the function reads within these lengths and keeps no pointer.
+    let reply = unsafe {
+        ffi::simjaldek_probe(
+            num_vars,
+            width,
+            points.as_ptr(),
+            points.len(),
+            formula.count,
+            formula.ops.as_ptr(),
+            formula.ops.len(),
+            formula.operands.as_ptr(),
+            formula.operands.len(),
+        )
+    };
+    unless_refused(reply.refusal, reply.row)
+}
+
+/// A number of a row's words; equal fingerprints never stand for equal rows. Refuses 4.
+pub fn fingerprint(row: &[u64]) -> Result<u64, Refusal> {
+    // SAFETY: the pointer comes with its slice's length; the function reads within it and keeps no pointer.
+    let reply = unsafe { ffi::simjaldek_fingerprint(row.as_ptr(), row.len()) };
+    unless_refused(reply.refusal, reply.word)
+}
+
+/// The w lowest bits set: 2^w - 1, all ones from 64 up.
+pub fn bitmask(width: u32) -> u64 {
+    // SAFETY: the function takes a number only.
+    unsafe { ffi::simjaldek_bitmask(width) }
+}
+
+/// The gate of this number in each of sixteen places. Refuses 2, 4, and 6 for a number above 4.
+pub fn gate_apply(a: &[u64], b: &[u64], gate: u32, width: u32) -> Result<Row, Refusal> {
+    // SAFETY: each pointer comes with its own slice's length; the function reads within these lengths and keeps no pointer.
+    let reply =
+        unsafe { ffi::simjaldek_gate_apply(a.as_ptr(), a.len(), b.as_ptr(), b.len(), gate, width) };
+    unless_refused(reply.refusal, reply.row)
+}
+
+/// What completes `a` to the target under Xor and Add; zeros under the other gates. Refuses 2, 4, and 6 for a number above 4.
+pub fn gate_residual(target: &[u64], a: &[u64], gate: u32, width: u32) -> Result<Row, Refusal> {
+    // SAFETY: each pointer comes with its own slice's length; the function reads within these lengths and keeps no pointer.
+    let reply = unsafe {
+        ffi::simjaldek_gate_residual(
+            target.as_ptr(),
+            target.len(),
+            a.as_ptr(),
+            a.len(),
+            gate,
+            width,
+        )
+    };
+    unless_refused(reply.refusal, reply.row)
+}
+
+/// Whether the gate gives the target in all sixteen places. Refuses 2, 4, and 6 for a number above 4.
+pub fn gate_matches(
+    a: &[u64],
+    b: &[u64],
+    target: &[u64],
+    gate: u32,
+    width: u32,
+) -> Result<bool, Refusal> {
+    // SAFETY: each pointer comes with its own slice's length; the function reads within these lengths and keeps no pointer.
+    let reply = unsafe {
+        ffi::simjaldek_gate_matches(
+            a.as_ptr(),
+            a.len(),
+            b.as_ptr(),
+            b.len(),
+            target.as_ptr(),
+            target.len(),
+            gate,
+            width,
+        )
+    };
+    unless_refused(reply.refusal, reply.kind == 1)
+}
+
+/// The part of the rows that is one atom's. Refuses 4, 7.
+pub fn atom_row(atoms: Atoms<'_>, slot: AtomSlot) -> Result<&[u64], Refusal> {
+    // SAFETY: the pointer comes with its slice's length; the function reads at most the length and keeps no pointer.
+    let reply = unsafe {
+        ffi::simjaldek_atom_row(atoms.rows.as_ptr(), atoms.rows.len(), atoms.count, slot.0)
+    };
+    let place = unless_refused(reply.refusal, reply.a as usize)?;
+    Ok(&atoms.rows[place..place + ROW_WORDS])
+}

@@ -1,0 +1,105 @@
+//! The words that the calls speak in: rows, points, slots, gates, costs, products.
+
+use crate::Token;
+use std::fmt;
+
+/// The most atoms a bank has.
+pub const ATOMS_MAX: usize = 479;
+/// The most pairs an index has.
+pub const PAIRS_MAX: usize = 262_144;
+/// The words of a row.
+pub const ROW_WORDS: usize = 16;
+/// The words of a point.
+pub const POINT_WORDS: usize = 6;
+/// The token places of an atom.
+pub const ATOM_TOKENS: usize = 6;
+
+/// Sixteen words: a formula's values at the sixteen points.
+pub type Row = [u64; ROW_WORDS];
+
+/// A word for each variable; places past the variable count are ignored.
+pub type Point = [u64; POINT_WORDS];
+
+/// The number of an atom in its bank.
+#[derive(Clone, Copy, Debug, PartialEq, Eq, PartialOrd, Ord, Hash)]
+pub struct AtomSlot(pub u32);
+
+/// The number of a pair in its index.
+#[derive(Clone, Copy, Debug, PartialEq, Eq, PartialOrd, Ord, Hash)]
+pub struct PairSlot(pub u32);
+
+/// A gate on rows.
+#[derive(Clone, Copy, Debug, PartialEq, Eq, Hash)]
+pub enum Gate {
+    /// Gate 0.
+    And,
+    /// Gate 1.
+    Or,
+    /// Gate 2.
+    Xor,
+    /// Gate 3, modulo 2^w.
+    Add,
+    /// Gate 4, modulo 2^w.
+    Mul,
+}
+
+impl Gate {
+    /// All gates, in number order.
+    pub const ALL: [Gate; 5] = [Gate::And, Gate::Or, Gate::Xor, Gate::Add, Gate::Mul];
+
+    /// The gate of a number, if it has one.
+    pub fn from_number(number: u32) -> Option<Self> {
+        Gate::ALL.into_iter().find(|gate| gate.number() == number)
+    }
+
+    /// Its number.
+    pub fn number(self) -> u32 {
+        match self {
+            Gate::And => 0,
+            Gate::Or => 1,
+            Gate::Xor => 2,
+            Gate::Add => 3,
+            Gate::Mul => 4,
+        }
+    }
+
+    /// The same operation in a formula.
+    pub fn token(self) -> Token {
+        match self {
+            Gate::And => Token::And,
+            Gate::Or => Token::Or,
+            Gate::Xor => Token::Xor,
+            Gate::Add => Token::Add,
+            Gate::Mul => Token::Mul,
+        }
+    }
+}
+
+/// A formula's cost. Costs are ordered by size, then products, then depth: the smaller is the better.
+#[derive(Clone, Copy, Debug, PartialEq, Eq, PartialOrd, Ord, Hash)]
+pub struct Cost {
+    /// The weighted size.
+    pub size: u32,
+    /// The nonlinear products.
+    pub products: u32,
+    /// The depth.
+    pub depth: u32,
+}
+
+/// As in the listing: size, products, depth.
+impl fmt::Display for Cost {
+    fn fmt(&self, f: &mut fmt::Formatter<'_>) -> fmt::Result {
+        write!(f, "{} {} {}", self.size, self.products, self.depth)
+    }
+}
+
+/// What the product search answers.
+#[derive(Clone, Copy, Debug, PartialEq, Eq)]
+pub enum Product {
+    /// Two atoms whose product is the target.
+    Atoms(AtomSlot, AtomSlot),
+    /// An atom and a listed pair whose product is the target.
+    AtomPair(AtomSlot, PairSlot),
+    /// Neither two atoms nor an atom and a listed pair have the target as their product.
+    Nothing,
+}

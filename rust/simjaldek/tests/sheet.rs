@@ -1,0 +1,251 @@
+//! The specification's sheet and the inputs of docs/DIFFERENCES.md, asked through the binding.
+
+mod common;
+
+use common::{one_variable, p2, repeated};
+use simjaldek::lent::{self, Atoms, Pairs};
+use simjaldek::{
+    candidates, compute_cost, product_search, AtomSlot, Bank, Cost, FormulaBuf, Gate, Index,
+    PairSlot, Product, Refusal, PAIRS_MAX,
+};
+
+fn texts(bank: &Bank) -> Vec<String> {
+    let formula = |slot| bank.formula(slot).expect("below the count").to_string();
+    bank.slots().map(formula).collect()
+}
+
+#[test]
+fn p1() {
+    let bank = Bank::build(1, 1, &one_variable(&[0, 1]), &[0; 16]).unwrap();
+    let costs: Vec<_> = bank
+        .slots()
+        .map(|slot| bank.cost(slot).unwrap().to_string())
+        .collect();
+    assert_eq!(costs, ["1 0 1", "1 0 1", "1 0 1", "2 0 2"]);
+    assert_eq!(texts(&bank), ["c0", "c1", "v0", "v0 !"]);
+    let index = Index::build(&bank, 1, 10).unwrap();
+    assert!(index.is_empty() && !index.is_cut());
+}
+
+#[test]
+fn p2_last_atom() {
+    let bank = p2();
+    assert_eq!(bank.len(), 14);
+    let last = AtomSlot(13);
+    assert_eq!(bank.formula(last).unwrap().to_string(), "v0 v0 * !");
+    assert_eq!(bank.row(last), Some(&repeated(&[3, 2])));
+    assert_eq!(bank.find_row(2, &repeated(&[3, 2])), Ok(Some(last)));
+    assert_eq!(bank.find_row(2, &repeated(&[0, 0, 0, 1])), Ok(None));
+    let beyond = AtomSlot(14);
+    assert_eq!(bank.row(beyond), None);
+    assert_eq!(bank.cost(beyond), None);
+    assert_eq!(bank.formula(beyond), None);
+}
+
+#[test]
+fn p3() {
+    let bank = p2();
+    let whole = Index::build(&bank, 2, PAIRS_MAX).unwrap();
+    assert_eq!((whole.len(), whole.is_cut()), (36, false));
+    let first = PairSlot(0);
+    let and_1_6 = (Gate::And, AtomSlot(1), AtomSlot(6));
+    assert_eq!(whole.pair(first), Some(and_1_6));
+    assert_eq!(whole.row(first), Some(&repeated(&[1, 0])));
+    assert_eq!(
+        (whole.pair(PairSlot(36)), whole.row(PairSlot(36))),
+        (None, None)
+    );
+    assert_eq!(Index::build(&bank, 2, 36), Ok(whole.clone()));
+    for limit in [0, 1, 35] {
+        let index = Index::build(&bank, 2, limit).unwrap();
+        assert_eq!((index.len(), index.is_cut()), (limit, true));
+        let same =
+            |slot| index.pair(slot) == whole.pair(slot) && index.row(slot) == whole.row(slot);
+        assert!(index.slots().all(same));
+    }
+}
+
+#[test]
+fn order_list_ascends() {
+    let index = Index::build(&p2(), 2, PAIRS_MAX).unwrap();
+    let key = |slot: PairSlot| (index.row(slot).unwrap()[0], slot);
+    let keys: Vec<_> = index.order().map(key).collect();
+    assert_eq!(keys.len(), index.len());
+    assert!(keys.windows(2).all(|two| two[0] < two[1]));
+}
+
+#[test]
+fn p4() {
+    let cost = |text: &str| {
+        let formula: FormulaBuf = text.parse().unwrap();
+        compute_cost(1, formula.as_formula())
+    };
+    let numbers = |size, products, depth| {
+        Ok(Cost {
+            size,
+            products,
+            depth,
+        })
+    };
+    assert_eq!(cost("v0 v0 *"), numbers(5, 1, 2));
+    assert_eq!(cost("c3 v0 *"), numbers(3, 0, 2));
+}
+
+/// The first words of the candidates among all words of a width, or none for "not used". Places beyond the count stay.
+fn candidate_words(p: u64, t: u64, width: u32) -> Option<Vec<u64>> {
+    let count = 1usize << width;
+    let rows: Vec<u64> = (0..count as u64).flat_map(|word| [word; 16]).collect();
+    let order: Vec<u32> = (0..count as u32).collect();
+    let pairs = Pairs {
+        count,
+        rows: &rows,
+        order: &order,
+    };
+    let mut list = vec![u32::MAX; count + 1];
+    let found = lent::candidates(width, pairs, p, t, &mut list).unwrap();
+    let written = found.unwrap_or(0);
+    assert!(list[written..].iter().all(|&place| place == u32::MAX));
+    found.map(|found| list[..found].iter().map(|&slot| slot as u64).collect())
+}
+
+#[test]
+fn p5_to_p7() {
+    assert_eq!(candidate_words(6, 4, 8), Some(vec![86, 214]));
+    assert_eq!(candidate_words(6, 3, 8), Some(vec![]));
+    assert_eq!(candidate_words(0, 0, 8), None);
+    assert_eq!(candidate_words(0, 1, 8), Some(vec![]));
+    let every_256th: Vec<u64> = (2..65_536).step_by(256).collect();
+    assert_eq!(candidate_words(256, 512, 16), Some(every_256th));
+    assert_eq!(candidate_words(512, 512, 16), None);
+    assert_eq!(candidate_words(512, 256, 16), Some(vec![]));
+}
+
+#[test]
+fn p8() {
+    let rows: Vec<u64> = [0, 1, u64::MAX - 1, u64::MAX]
+        .into_iter()
+        .flat_map(|word| [word; 16])
+        .collect();
+    let pairs = Pairs {
+        count: 4,
+        rows: &rows,
+        order: &[0, 1, 2, 3],
+    };
+    let mut list = [0; 4];
+    let found = lent::candidates(64, pairs, 1, u64::MAX, &mut list);
+    assert_eq!((found, list), (Ok(Some(1)), [3, 0, 0, 0]));
+}
+
+#[test]
+fn candidates_of_an_index() {
+    let index = Index::build(&p2(), 2, PAIRS_MAX).unwrap();
+    let all: Vec<PairSlot> = index
+        .order()
+        .filter(|&slot| index.row(slot).unwrap()[0] * 2 % 4 == 2)
+        .collect();
+    assert!(!all.is_empty());
+    assert_eq!(candidates(&index, 2, 2, 2), Ok(Some(all)));
+    assert_eq!(candidates(&index, 2, 2, 1), Ok(Some(vec![])));
+    assert_eq!(candidates(&index, 2, 0, 0), Ok(None));
+}
+
+#[test]
+fn p9() {
+    let points = one_variable(&std::array::from_fn::<u64, 16, _>(|i| i as u64));
+    let held = |target: u64| {
+        let bank = Bank::build(1, 8, &points, &[target; 16]).unwrap();
+        let slot = bank.find_row(8, &[254; 16]).unwrap().expect("held");
+        (slot, bank.formula(slot).unwrap().to_string())
+    };
+    let (slot, text) = held(0);
+    assert_eq!(text, "c1 !");
+    assert_eq!(held(254), (slot, "c254".to_owned()));
+}
+
+#[test]
+fn p10() {
+    let mut target = [0; 16];
+    target[..7].fill(1);
+    target[7] = 4;
+    let points = one_variable(&std::array::from_fn::<u64, 16, _>(|i| i as u64));
+    let bank = Bank::build(1, 8, &points, &target).unwrap();
+    let held = |word: u64| bank.find_row(8, &[word; 16]).unwrap().is_some();
+    assert!(held(5) && held(1) && !held(4));
+}
+
+#[test]
+fn target_word_256() {
+    let build = |word| Bank::build(1, 8, &one_variable(&[0]), &[word; 16]).map(|_| ());
+    assert_eq!(build(256), Err(Refusal::Word));
+    assert_eq!(build(255), Ok(()));
+}
+
+/// The answer over the bank's whole index at a width of its own, which has so many pairs.
+fn search(bank: &Bank, width: u32, pairs: usize, target: &[u64]) -> Product {
+    let index = Index::build(bank, width, PAIRS_MAX).unwrap();
+    assert_eq!((index.len(), index.is_cut()), (pairs, false));
+    product_search(bank, &index, width, &repeated(target)).unwrap()
+}
+
+#[test]
+fn d1() {
+    let bank = |width, words: &[u64], target| {
+        Bank::build(1, width, &one_variable(words), &[target; 16]).unwrap()
+    };
+    let four = bank(3, &[0, 1, 2, 3], 0);
+    assert_eq!(four.len(), 17);
+    let answer = |slot| Product::AtomPair(AtomSlot(1), PairSlot(slot));
+    assert_eq!(search(&four, 2, 172, &[3, 1, 3, 3]), answer(74));
+    let zeros = bank(6, &[0], 4);
+    assert_eq!(zeros.len(), 7);
+    assert_eq!(search(&zeros, 5, 18, &[25]), answer(6));
+}
+
+#[test]
+fn d1_with_eight_points() {
+    let points = one_variable(&[0, 1, 2, 3, 4, 5, 6, 7]);
+    let bank = Bank::build(1, 3, &points, &[0; 16]).unwrap();
+    let answer = Product::AtomPair(AtomSlot(1), PairSlot(92));
+    assert_eq!(search(&bank, 2, 216, &[3, 1, 3, 3]), answer);
+}
+
+#[test]
+fn d1_with_lent_rows() {
+    let (atoms, listed) = ([1; 16], [2; 16]);
+    let atoms = Atoms {
+        count: 1,
+        rows: &atoms,
+    };
+    let pairs = Pairs {
+        count: 1,
+        rows: &listed,
+        order: &[0],
+    };
+    let answer = Product::AtomPair(AtomSlot(0), PairSlot(0));
+    assert_eq!(lent::product_search(1, atoms, pairs, &[0; 16]), Ok(answer));
+    assert_eq!(
+        lent::product_search(
+            1,
+            Atoms {
+                count: 0,
+                rows: &[]
+            },
+            pairs,
+            &[0; 16]
+        ),
+        Ok(Product::Nothing)
+    );
+}
+
+#[test]
+fn d2() {
+    let bank = Bank::build(1, 2, &one_variable(&[0, 2]), &[0; 16]).unwrap();
+    assert_eq!(bank.len(), 7);
+    let index = Index::build(&bank, 2, PAIRS_MAX).unwrap();
+    let product = product_search(&bank, &index, 2, &repeated(&[1, 3]));
+    assert_eq!(product, Ok(Product::Atoms(AtomSlot(1), AtomSlot(6))));
+    let bank = p2();
+    let index = Index::build(&bank, 2, PAIRS_MAX).unwrap();
+    let product = product_search(&bank, &index, 2, &repeated(&[0, 1]));
+    assert_eq!(product, Ok(Product::Atoms(AtomSlot(1), AtomSlot(8))));
+}

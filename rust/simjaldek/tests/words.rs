@@ -1,0 +1,132 @@
+//! Words, rows, points and formulas against arithmetic written here.
+
+use simjaldek::{
+    bitmask, evaluate, fingerprint, gate_apply, gate_matches, gate_residual, probe_points,
+    probe_row, Formula, FormulaBuf, Gate, Refusal, Row, Token,
+};
+
+fn splitmix64(state: &mut u64) -> u64 {
+    *state = state.wrapping_add(0x9E37_79B9_7F4A_7C15);
+    let z = (*state ^ (*state >> 30)).wrapping_mul(0xBF58_476D_1CE4_E5B9);
+    let z = (z ^ (z >> 27)).wrapping_mul(0x94D0_49BB_1331_11EB);
+    z ^ (z >> 31)
+}
+
+fn mask(width: u32) -> u64 {
+    u64::MAX >> (64 - width)
+}
+
+fn random_row(state: &mut u64) -> Row {
+    std::array::from_fn(|_| splitmix64(state))
+}
+
+#[test]
+fn bitmasks() {
+    assert_eq!([0, 1, 63].map(bitmask), [0, 1, u64::MAX >> 1]);
+    assert_eq!([64, 65, u32::MAX].map(bitmask), [u64::MAX; 3]);
+}
+
+#[test]
+fn points() {
+    for (num_vars, width) in [(1, 64), (3, 7), (6, 1)] {
+        let mut state = 0xC0B4A;
+        let points = probe_points(num_vars, width).unwrap();
+        for point in points {
+            for (place, word) in point.into_iter().enumerate() {
+                let drawn = (place < num_vars as usize).then(|| splitmix64(&mut state));
+                assert_eq!(word, drawn.unwrap_or(0) & mask(width));
+            }
+        }
+    }
+}
+
+#[test]
+fn fingerprints() {
+    let mut state = 1;
+    let row = random_row(&mut state);
+    let mix = |h: u64, v: u64| {
+        let x = (h ^ v).wrapping_mul(0x100_0000_01B3);
+        x ^ (x >> 29)
+    };
+    let h = row.into_iter().fold(0xCBF2_9CE4_8422_2325, mix);
+    let x = (h ^ (h >> 32)).wrapping_mul(0xFF51_AFD7_ED55_8CCD);
+    assert_eq!(fingerprint(&row), x ^ (x >> 32));
+}
+
+#[test]
+fn gates() {
+    let mut state = 2;
+    let (a, b) = (random_row(&mut state), random_row(&mut state));
+    for width in [1, 8, 33, 64] {
+        for gate in Gate::ALL {
+            let each = |x: u64, y: u64| match gate {
+                Gate::And => x & y,
+                Gate::Or => x | y,
+                Gate::Xor => x ^ y,
+                Gate::Add => x.wrapping_add(y) & mask(width),
+                Gate::Mul => x.wrapping_mul(y) & mask(width),
+            };
+            let target: Row = std::array::from_fn(|i| each(a[i], b[i]));
+            assert_eq!(gate_apply(&a, &b, gate, width), Ok(target));
+            assert_eq!(gate_matches(&a, &b, &target, gate, width), Ok(true));
+            let mut other = target;
+            other[15] ^= 1;
+            assert_eq!(gate_matches(&a, &b, &other, gate, width), Ok(false));
+            let residual: Row = std::array::from_fn(|i| match gate {
+                Gate::Xor => b[i],
+                Gate::Add => b[i] & mask(width),
+                _ => 0,
+            });
+            assert_eq!(gate_residual(&target, &a, gate, width), Ok(residual));
+        }
+    }
+    assert_eq!(gate_apply(&a, &b, Gate::And, 0), Err(Refusal::Width));
+}
+
+#[test]
+fn values_and_rows() {
+    let formula: FormulaBuf = "v0 v1 + c5 * v1 ! ^ v0 - | v1 c9 & +".parse().unwrap();
+    let value = |x: u64, y: u64| {
+        let left = x.wrapping_add(y).wrapping_mul(5) ^ !y;
+        (left | x.wrapping_neg()).wrapping_add(y & 9)
+    };
+    for width in [1, 8, 64] {
+        let points = probe_points(2, width).unwrap();
+        let row = points.map(|point| value(point[0], point[1]) & mask(width));
+        let formula = formula.as_formula();
+        assert_eq!(probe_row(2, width, &points, formula), Ok(row));
+        assert_eq!(evaluate(2, width, formula, &points[0]), Ok(row[0]));
+    }
+}
+
+#[test]
+fn texts_and_tokens() {
+    let text = "c18446744073709551615 v5 + c1 * v0 & v1 | v2 ^ ! -";
+    let formula: FormulaBuf = text.parse().unwrap();
+    assert_eq!(formula.to_string(), text);
+    let ops = [0, 1, 2, 0, 3, 1, 4, 1, 5, 1, 6, 7, 8];
+    assert_eq!(formula.as_formula().ops(), ops);
+    let again: FormulaBuf = formula.as_formula().tokens().collect();
+    assert_eq!(again, formula);
+    assert!("v0 ?".parse::<FormulaBuf>().is_err() && "v".parse::<FormulaBuf>().is_err());
+    let bad = Formula::new(&[9, 2], &[0, 1]).unwrap();
+    let tokens: Vec<Token> = bad.tokens().collect();
+    assert_eq!(tokens, [Token::Bad(9, 0), Token::Bad(2, 1)]);
+    assert_eq!(bad.to_string(), "? ?");
+    assert_eq!(Formula::new(&[0], &[]), None);
+}
+
+#[test]
+fn refusals_by_number() {
+    for number in 0..12 {
+        let refusal = Refusal::from_number(number);
+        assert_eq!(refusal.number(), number);
+        assert!(refusal
+            .to_string()
+            .starts_with(&format!("refused {number}: ")));
+        assert_eq!(
+            matches!(refusal, Refusal::Other(_)),
+            !(1..=9).contains(&number)
+        );
+    }
+}
