@@ -1,7 +1,7 @@
 //! The data file banks.txt: whole banks, and what the bank build refuses.
 
 mod answered;
-pub mod made;
+pub use oracle::made::banks as made;
 mod refused;
 
 use crate::data_file::DataFile;

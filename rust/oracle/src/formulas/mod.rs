@@ -1,7 +1,7 @@
 //! The data file formulas.txt: values, costs and refusals of formulas.
 
 mod answered;
-pub mod made;
+pub use oracle::made::formulas as made;
 mod refused;
 
 use crate::data_file::DataFile;
