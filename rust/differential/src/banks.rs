@@ -31,6 +31,7 @@ pub fn compare(inputs: &mut Inputs, report: &mut Report, input: &BankInput) -> V
     expected.write(&atoms);
     expected.work.clone_from(&buffers.work);
     let theirs = (Ok(atoms.len()), expected);
+    report.reach("banks of more than 300 atoms", atoms.len() > 300);
     report.compare(Kind::Bank, &input.numbers(), &(built, buffers), &theirs);
     atoms
 }

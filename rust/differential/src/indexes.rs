@@ -78,6 +78,8 @@ impl Setting {
         expected.work.clone_from(&buffers.work);
         let cut = self.is_cut(limit);
         let theirs = (Ok(Built { pairs: count, cut }), expected);
+        report.reach("indexes that are cut", cut);
+        report.reach("indexes of 262,144 pairs", count == PAIRS_MAX);
         let input = (self.width, limit, &self.rows);
         report.compare(Kind::Index, &input, &(built, buffers), &theirs);
     }

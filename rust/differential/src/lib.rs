@@ -20,10 +20,15 @@ use oracle::made::banks::BankInput;
 use indexes::Setting;
 use report::Report;
 
-/// The variable counts by how often they come: an index of six variables costs the Rust a hundred times that of one.
-const VARIABLE_COUNTS: [u32; 24] = [
-    1, 1, 1, 1, 1, 1, 1, 1, 1, 1, 2, 2, 2, 2, 2, 2, 2, 3, 3, 3, 4, 4, 5, 6,
+/// The variable counts.
+const VARIABLE_COUNTS: [u32; 6] = [1, 2, 3, 4, 5, 6];
+/// The same where indexes follow, by how often they come: of six variables they cost the Rust a hundred times as much as of one.
+const INDEX_VARIABLE_COUNTS: [u32; 24] = [
+    1, 1, 1, 1, 1, 1, 1, 1, 1, 2, 2, 2, 2, 2, 2, 2, 3, 3, 3, 4, 4, 5, 6, 6,
 ];
+
+/// Banks of a round; the last gets indexes and searches.
+const BANKS: usize = 4;
 
 /// Rounds until at least `count` results are compared.
 pub fn run(seed: u64, count: u64) -> Report {
@@ -36,14 +41,17 @@ pub fn run(seed: u64, count: u64) -> Report {
     report
 }
 
-/// One round: a bank, its indexes and searches, formulas, words, and what is refused.
+/// One round: banks, indexes and searches, formulas, words, and what is refused.
 pub fn round(seed: u64, number: u64, report: &mut Report) {
     report.begin(number);
     let start = Inputs::from_seed(number).word();
     let inputs = &mut Inputs::from_seed(seed ^ start);
-    let num_vars = inputs.one_of(&VARIABLE_COUNTS);
-    let width = any_width(inputs);
-    let input = BankInput::of_any_style(inputs, num_vars, width);
+    for _ in 1..BANKS {
+        let input = bank_input(inputs, &VARIABLE_COUNTS);
+        banks::compare(inputs, report, &input);
+    }
+    let input = bank_input(inputs, &INDEX_VARIABLE_COUNTS);
+    let width = input.width;
     let atoms = banks::compare(inputs, report, &input);
     banks::compare_rows(inputs, report, &atoms, width);
     let setting = Setting::new(atoms, other_width(inputs, width));
@@ -54,6 +62,13 @@ pub fn round(seed: u64, number: u64, report: &mut Report) {
     formulas::compare(inputs, report, &input.points, width);
     words::compare(inputs, report);
     refused::compare(inputs, report);
+}
+
+/// Points and target of any style.
+fn bank_input(inputs: &mut Inputs, variable_counts: &[u32]) -> BankInput {
+    let num_vars = inputs.one_of(variable_counts);
+    let width = any_width(inputs);
+    BankInput::of_any_style(inputs, num_vars, width)
 }
 
 /// A width from 1 to 64, the small ones more often.

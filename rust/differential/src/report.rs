@@ -70,6 +70,8 @@ pub struct Report {
     tallies: BTreeMap<Kind, Tally>,
     /// Refused calls by the table's number; the first place has the calls that were answered.
     refusals: [u64; 10],
+    /// How often something came up that a run should reach.
+    reached: BTreeMap<&'static str, u64>,
     differences: Vec<String>,
 }
 
@@ -80,6 +82,7 @@ impl Report {
             round: 0,
             tallies: BTreeMap::new(),
             refusals: [0; 10],
+            reached: BTreeMap::new(),
             differences: Vec::new(),
         }
     }
@@ -134,6 +137,11 @@ impl Report {
         self.compare(kind, input, &ours, &(expected, true));
     }
 
+    /// Counts something that came up, if it did.
+    pub fn reach(&mut self, name: &'static str, came_up: bool) {
+        *self.reached.entry(name).or_default() += u64::from(came_up);
+    }
+
     fn tally(&mut self, kind: Kind) -> &mut Tally {
         self.tallies.entry(kind).or_default()
     }
@@ -159,7 +167,7 @@ fn told(value: &impl Debug) -> String {
     }
 }
 
-/// A line for each kind, their sum, the refusals by number, then every difference with its input.
+/// A line for each kind, their sum, the refusals by number, what came up, then every difference with its input.
 impl fmt::Display for Report {
     fn fmt(&self, f: &mut fmt::Formatter<'_>) -> fmt::Result {
         writeln!(
@@ -179,7 +187,10 @@ impl fmt::Display for Report {
             "calls refused, by number 1 to 8: {numbers:?}; answered beside them: {}",
             self.refusals[0]
         )?;
-        writeln!(f, "seed {}, rounds 0 to {}", self.seed, self.round)?;
+        for (name, count) in &self.reached {
+            writeln!(f, "{name}: {count}")?;
+        }
+        writeln!(f, "seed {}, last round {}", self.seed, self.round)?;
         self.differences
             .iter()
             .try_for_each(|text| writeln!(f, "{text}"))
@@ -204,5 +215,37 @@ impl Tally {
             d2: self.d2 + other.d2,
             others: self.others + other.others,
         }
+    }
+}
+
+#[cfg(test)]
+mod tests {
+    use super::{Kind, Known, Report};
+
+    /// A difference is counted and told with seed, round, input and both results; a known one is only counted.
+    #[test]
+    fn differences() {
+        let mut report = Report::new(11);
+        report.begin(22);
+        report.compare(Kind::Value, &33, &44, &44);
+        report.known(Kind::TwoAtoms, Known::D2);
+        assert_eq!((report.comparisons(), report.others()), (2, 0));
+        report.compare(Kind::Value, &33, &44, &55);
+        assert_eq!((report.comparisons(), report.others()), (3, 1));
+        let text = report.to_string();
+        let told = "seed 11 round 22, Value\n  input 33\n  ours 44\n  theirs 55\n";
+        assert!(text.ends_with(told), "{text}");
+    }
+
+    /// A wrong number is a difference, and so is a buffer that a refused call has changed.
+    #[test]
+    fn refusals() {
+        let mut report = Report::new(1);
+        report.refusal(Kind::RefusedBank, &(), (4, true), 4);
+        assert_eq!(report.others(), 0);
+        report.refusal(Kind::RefusedBank, &(), (4, false), 4);
+        report.refusal(Kind::RefusedBank, &(), (5, true), 4);
+        report.refusal(Kind::RefusedBank, &(), (0, true), 4);
+        assert_eq!(report.others(), 3);
     }
 }

@@ -149,9 +149,11 @@ impl<'a> Asked<'a> {
         } else {
             report.compare(Kind::TwoAtoms, &input, &two, &rust);
         }
+        report.reach("two atoms fit", rust.is_some());
         if two.is_some() || rust.is_some() {
             return;
         }
+        report.reach("product loops that find a pair", found.is_some());
         if self.is_d1(&target, ours, found) {
             report.known(Kind::ProductLoop, Known::D1);
         } else {
@@ -196,6 +198,8 @@ impl<'a> Asked<'a> {
         let width = self.lent.width;
         let (p, t) = self.words(inputs);
         let (used, list) = access::candidates(&self.first_words, p, t, width);
+        report.reach("candidates: not used", !used);
+        report.reach("candidates: some listed", !list.is_empty());
         let rust = used.then_some(list);
         let places = self.lent.pairs.len() + extra(inputs);
         let mut buffer = garbage_u32(inputs, places);
@@ -268,4 +272,77 @@ fn listed(slots: Option<&[usize]>, before: &[u32]) -> (Result<Option<usize>, Ref
         *place = slot as u32;
     }
     (Ok(slots.map(<[usize]>::len)), buffer)
+}
+
+#[cfg(test)]
+mod tests {
+    use super::{atom_of, product_of, Asked, Lent, Row};
+    use oracle::access;
+    use oracle::inputs::{one_variable, repeated, Inputs};
+
+    /// Asks the searcher over lent atoms and pairs.
+    fn ask<T>(lent: &Lent, question: impl FnOnce(&Asked<'_>) -> T) -> T {
+        question(&Asked::new(&mut Inputs::from_seed(0), lent))
+    }
+
+    /// D1's lent rows: the Rust finds nothing, the plain statement atom 0 with pair 0; only this answer passes for D1.
+    #[test]
+    fn d1_is_recognised() {
+        let rows = |word: u64| -> Row { [word; 16] };
+        let lent = Lent {
+            atoms: vec![atom_of(rows(1))],
+            pairs: vec![rows(2), rows(0)],
+            width: 1,
+        };
+        let is_d1 = |ours, rust| {
+            ask(&lent, |asked| {
+                asked.is_d1(&rows(0), Ok(product_of(ours)), rust)
+            })
+        };
+        assert!(!is_d1(Some((0, 1)), Some((0, 1))));
+        assert!(!is_d1(Some((0, 0)), None));
+        let lent = Lent {
+            pairs: vec![rows(2)],
+            ..lent
+        };
+        let is_d1 = |ours, rust| {
+            ask(&lent, |asked| {
+                asked.is_d1(&rows(0), Ok(product_of(ours)), rust)
+            })
+        };
+        assert!(is_d1(Some((0, 0)), None));
+        assert!(!is_d1(None, None) && !is_d1(None, Some((0, 0))));
+    }
+
+    /// The lists of the same rows.
+    #[test]
+    fn d1_lists_are_recognised() {
+        let lent = Lent {
+            atoms: Vec::new(),
+            pairs: vec![[2; 16], [0; 16], [1; 16]],
+            width: 1,
+        };
+        let is_d1 = |expected: &[usize], rust: Option<&[usize]>| {
+            ask(&lent, |asked| asked.is_d1_list(Some(expected), rust))
+        };
+        assert!(is_d1(&[1, 0], Some(&[1])));
+        assert!(!is_d1(&[1, 0], Some(&[0])) && !is_d1(&[1, 0], Some(&[])));
+        assert!(!is_d1(&[1, 0], Some(&[1, 0])) && !is_d1(&[1, 0], None));
+    }
+
+    /// D2's bank of width 2: atoms 1 and 6 against the Rust's 3 and 5; only this answer passes for D2.
+    #[test]
+    fn d2_is_recognised() {
+        let lent = Lent {
+            atoms: access::bank(1, 2, &one_variable(&[0, 2]), [0; 16]),
+            pairs: Vec::new(),
+            width: 2,
+        };
+        let target = repeated(&[1, 3]);
+        let rust = access::two_atoms(target, &lent.atoms, 2);
+        assert_eq!(rust, Some((3, 5)));
+        let is_d2 = |ours, rust| ask(&lent, |asked| asked.is_d2(&target, ours, rust));
+        assert!(is_d2(Some((1, 6)), rust));
+        assert!(!is_d2(Some((6, 1)), rust) && !is_d2(None, rust) && !is_d2(Some((1, 6)), None));
+    }
 }

@@ -13,15 +13,17 @@ use simjaldek::Refusal;
 use crate::any_width;
 use crate::report::Report;
 
-/// Each call once or more.
+const TURNS: usize = 4;
+
+/// Each call that takes arrays a few times, the others once.
 pub fn compare(inputs: &mut Inputs, report: &mut Report) {
-    banks::build(inputs, report);
-    banks::find_row(inputs, report);
-    banks::atom_row(inputs, report);
-    indexes::build(inputs, report);
-    searches::candidates(inputs, report);
-    searches::search(inputs, report);
-    for _ in 0..4 {
+    for _ in 0..TURNS {
+        banks::build(inputs, report);
+        banks::find_row(inputs, report);
+        banks::atom_row(inputs, report);
+        indexes::build(inputs, report);
+        searches::candidates(inputs, report);
+        searches::search(inputs, report);
         formulas::compare(inputs, report);
     }
     words::compare(inputs, report);
