@@ -25,7 +25,7 @@ mod tests {
             let mixed = digest(row) ^ (digest(row) >> 32);
             let product = mixed.wrapping_mul(0xFF51_AFD7_ED55_8CCD);
             let fingerprint = product ^ (product >> 32);
-            assert_eq!(fingerprint, oracle::access::fingerprint(row));
+            assert_eq!(fingerprint, crate::access::fingerprint(row));
         }
     }
 

@@ -1,7 +1,7 @@
 //! Where the driver's inputs come from: a splitmix64 generator of its own, so that the originals' answers do not choose
 //! what the originals are asked. The order of the calls fixes every input.
 
-use oracle::access::Row;
+use crate::access::Row;
 
 /// The seed, the bytes of "SIMJALDE". Each kind of line has a generator of its own, from this number plus the kind.
 pub const INPUT_SEED: u64 = 0x5349_4D4A_414C_4445;
@@ -15,6 +15,11 @@ impl Inputs {
         Self {
             state: INPUT_SEED + kind,
         }
+    }
+
+    /// A generator from any number.
+    pub fn from_seed(seed: u64) -> Self {
+        Self { state: seed }
     }
 
     /// Any 64-bit word.

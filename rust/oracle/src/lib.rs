@@ -2,11 +2,16 @@
 //!
 //! The modules below stand where the originals look for one another: `crate::core`, `crate::passes`, `crate::simd`,
 //! `crate::ir`. Their files are copied by build.rs from the folder that `COBRA_SRC` names. What the originals use but the
-//! oracle does not take from the checkout is in `standins`. A caller needs only `access`: plain numbers in, plain numbers out.
+//! oracle does not take from the checkout is in `standins`. A caller needs only `access`: plain numbers in, plain numbers out;
+//! and, to compare, the specification stated once more in `spec`, with `inputs` and what is `made` of them.
 
 // The originals say `smallvec::SmallVec`: this crate is found under that name too, and hands out its stand-in.
 extern crate self as smallvec;
 
+pub mod digest;
+pub mod inputs;
+pub mod made;
+pub mod spec;
 mod standins;
 
 pub use passes::template_decomposer::access;

@@ -10,18 +10,17 @@
 mod banks;
 mod data_file;
 mod differences;
-mod digest;
 mod formulas;
 mod indexes;
-mod inputs;
 mod listings;
 mod probe;
 mod searches;
-mod spec;
 
 use std::env;
 use std::io::{self, Write};
 use std::process::ExitCode;
+
+use oracle::{digest, inputs, spec};
 
 fn main() -> ExitCode {
     let arguments: Vec<String> = env::args().skip(1).collect();

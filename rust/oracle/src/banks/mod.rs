@@ -1,8 +1,9 @@
 //! The data file banks.txt: whole banks, and what the bank build refuses.
 
 mod answered;
-pub mod made;
 mod refused;
+
+pub use oracle::made::banks as made;
 
 use crate::data_file::DataFile;
 

@@ -1,8 +1,9 @@
 //! The data file formulas.txt: values, costs and refusals of formulas.
 
 mod answered;
-pub mod made;
 mod refused;
+
+pub use oracle::made::formulas as made;
 
 use crate::data_file::DataFile;
 

@@ -1,6 +1,6 @@
 //! The bank by a list of atoms: each formula in turn, its row looked for from the first atom on.
 
-use oracle::access::{AtomView, Formula, Row};
+use crate::access::{AtomView, Formula, Row};
 
 use super::formulas::{
     cost, value, ADD, AND, CONSTANT, MUL, NEG, NOT, OR, VARIABLE, VARS_MAX, XOR,

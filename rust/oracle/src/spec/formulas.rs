@@ -1,6 +1,6 @@
 //! Formulas: value, cost and refusals, over the tokens themselves.
 
-use oracle::access::{Cost, Formula};
+use crate::access::{Cost, Formula};
 
 use super::refusals::{NONE, REFUSED_FORMULA, REFUSED_LENGTH, REFUSED_VARS, REFUSED_WIDTH};
 

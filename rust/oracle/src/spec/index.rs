@@ -2,7 +2,7 @@
 
 use std::collections::HashSet;
 
-use oracle::access::Row;
+use crate::access::Row;
 
 use super::bank::ATOMS_MAX;
 use super::formulas::{gate_word, ADD, AND, GATE_OPS, MUL, OR};

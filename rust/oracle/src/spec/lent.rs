@@ -1,6 +1,6 @@
 //! What is handed to the candidates and to the product search, good or not.
 
-use oracle::access::Row;
+use crate::access::Row;
 
 use super::bank::ATOMS_MAX;
 use super::index::PAIRS_MAX;

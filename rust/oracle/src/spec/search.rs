@@ -2,7 +2,7 @@
 
 use std::collections::HashMap;
 
-use oracle::access::Row;
+use crate::access::Row;
 
 /// The answer of the search.
 #[derive(Clone, Copy, Debug, PartialEq, Eq)]

@@ -1,7 +1,6 @@
 //! Formulas of given sizes and shapes, and words for them.
 
-use oracle::access::Formula;
-
+use crate::access::Formula;
 use crate::inputs::Inputs;
 use crate::spec::formulas::{CONSTANT, GATES, NEG, NOT, VARIABLE};
 

@@ -1,9 +1,8 @@
 //! Points and targets of several styles, and the banks that they give.
 
-use oracle::access::{self, AtomView, Row};
-
-use crate::formulas::made::{Lean, Maker};
+use crate::access::{self, AtomView, Row};
 use crate::inputs::Inputs;
+use crate::made::formulas::{Lean, Maker};
 use crate::spec::bank as spec;
 use crate::spec::search::product;
 

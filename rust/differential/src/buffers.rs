@@ -1,0 +1,143 @@
+//! Buffers filled with garbage, as long as a call needs or longer.
+
+use oracle::access::{AtomView, Row};
+use oracle::inputs::Inputs;
+use simjaldek::lent::{BankArrays, IndexArrays};
+
+/// The token places of an atom, and what stands where there is no token.
+const ATOM_TOKENS: usize = 6;
+const NO_TOKEN: u8 = 255;
+
+pub fn garbage_u64(inputs: &mut Inputs, len: usize) -> Vec<u64> {
+    (0..len).map(|_| inputs.word()).collect()
+}
+
+pub fn garbage_u32(inputs: &mut Inputs, len: usize) -> Vec<u32> {
+    (0..len).map(|_| inputs.word() as u32).collect()
+}
+
+fn garbage_u8(inputs: &mut Inputs, len: usize) -> Vec<u8> {
+    (0..len).map(|_| inputs.word() as u8).collect()
+}
+
+/// How many places a buffer has beyond those needed.
+pub fn extra(inputs: &mut Inputs) -> usize {
+    inputs.one_of(&[0, 0, 0, 1, 2, 17, 50])
+}
+
+/// Words with garbage after them, or nothing.
+pub fn longer(inputs: &mut Inputs, words: &[u64]) -> Vec<u64> {
+    let count = extra(inputs);
+    let mut longer = words.to_vec();
+    longer.extend(garbage_u64(inputs, count));
+    longer
+}
+
+/// Rows one after the other, with garbage after them, or nothing.
+pub fn flat(inputs: &mut Inputs, rows: &[Row]) -> Vec<u64> {
+    longer(inputs, rows.as_flattened())
+}
+
+/// Sixteen points of six words each, garbage past the variables.
+pub fn flat_points(inputs: &mut Inputs, points: &[Vec<u64>]) -> Vec<u64> {
+    let mut words = garbage_u64(inputs, 96);
+    for (place, point) in points.iter().enumerate() {
+        words[6 * place..][..point.len()].copy_from_slice(point);
+    }
+    longer(inputs, &words)
+}
+
+/// Buffers of a bank build.
+#[derive(Clone, Debug, PartialEq)]
+pub struct BankBuffers {
+    pub lengths: Vec<u32>,
+    pub ops: Vec<u8>,
+    pub operands: Vec<u64>,
+    pub costs: Vec<u32>,
+    pub rows: Vec<u64>,
+    pub work: Vec<u32>,
+}
+
+impl BankBuffers {
+    /// Garbage, of these lengths in the order of the fields.
+    pub fn new(inputs: &mut Inputs, lengths: [u64; 6]) -> Self {
+        let [tokens, ops, operands, costs, rows, work] = lengths.map(|length| length as usize);
+        BankBuffers {
+            lengths: garbage_u32(inputs, tokens),
+            ops: garbage_u8(inputs, ops),
+            operands: garbage_u64(inputs, operands),
+            costs: garbage_u32(inputs, costs),
+            rows: garbage_u64(inputs, rows),
+            work: garbage_u32(inputs, work),
+        }
+    }
+
+    pub fn lend(&mut self) -> BankArrays<'_> {
+        BankArrays {
+            lengths: &mut self.lengths,
+            ops: &mut self.ops,
+            operands: &mut self.operands,
+            costs: &mut self.costs,
+            rows: &mut self.rows,
+            work: &mut self.work,
+        }
+    }
+
+    /// Writes the atoms as 01 lays them out.
+    pub fn write(&mut self, atoms: &[AtomView]) {
+        for (slot, atom) in atoms.iter().enumerate() {
+            let count = atom.formula.ops.len();
+            self.lengths[slot] = count as u32;
+            let ops = &mut self.ops[ATOM_TOKENS * slot..][..ATOM_TOKENS];
+            ops.fill(NO_TOKEN);
+            ops[..count].copy_from_slice(&atom.formula.ops);
+            let operands = &mut self.operands[ATOM_TOKENS * slot..][..ATOM_TOKENS];
+            operands.fill(0);
+            operands[..count].copy_from_slice(&atom.formula.operands);
+            self.costs[3 * slot..][..3].copy_from_slice(&atom.cost);
+            self.rows[16 * slot..][..16].copy_from_slice(&atom.row);
+        }
+    }
+}
+
+/// Buffers of an index build.
+#[derive(Clone, Debug, PartialEq)]
+pub struct IndexBuffers {
+    pub pairs: Vec<u32>,
+    pub rows: Vec<u64>,
+    pub order: Vec<u32>,
+    pub work: Vec<u32>,
+}
+
+impl IndexBuffers {
+    /// Garbage, of these lengths in the order of the fields.
+    pub fn new(inputs: &mut Inputs, lengths: [usize; 4]) -> Self {
+        let [pairs, rows, order, work] = lengths;
+        IndexBuffers {
+            pairs: garbage_u32(inputs, pairs),
+            rows: garbage_u64(inputs, rows),
+            order: garbage_u32(inputs, order),
+            work: garbage_u32(inputs, work),
+        }
+    }
+
+    pub fn lend(&mut self) -> IndexArrays<'_> {
+        IndexArrays {
+            pairs: &mut self.pairs,
+            rows: &mut self.rows,
+            order: &mut self.order,
+            work: &mut self.work,
+        }
+    }
+
+    /// Writes pairs, their rows and the order list.
+    pub fn write(&mut self, pairs: &[[usize; 3]], rows: &[Row], order: &[u32]) {
+        let numbers = pairs.as_flattened().iter().map(|&number| number as u32);
+        self.pairs
+            .iter_mut()
+            .zip(numbers)
+            .for_each(|(place, number)| *place = number);
+        self.rows[..16 * rows.len()].copy_from_slice(rows.as_flattened());
+        self.order[..order.len()].copy_from_slice(order);
+    }
+}

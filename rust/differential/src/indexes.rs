@@ -1,0 +1,110 @@
+//! Indexes: pairs, rows, order list and the mark "cut", with limits around the Rust's own number of pairs.
+
+use oracle::access::{self, AtomView, IndexView, Row};
+use oracle::inputs::Inputs;
+use oracle::spec::index as spec;
+use simjaldek::lent::{self, Atoms, Built};
+use simjaldek::{ATOMS_MAX, PAIRS_MAX};
+
+use crate::buffers::{extra, flat, IndexBuffers};
+use crate::report::{Kind, Report};
+use crate::searches::Lent;
+
+/// The listing program's largest limit.
+const SMALL_LIMIT: usize = 500;
+/// Indexes of more pairs are asked for with fewer limits.
+const MANY_PAIRS: usize = 4000;
+
+/// A bank with the Rust's whole index, and the width of the index.
+pub struct Setting {
+    atoms: Vec<AtomView>,
+    rows: Vec<Row>,
+    index: IndexView,
+    width: u32,
+}
+
+impl Setting {
+    pub fn new(atoms: Vec<AtomView>, width: u32) -> Self {
+        let rows: Vec<Row> = atoms.iter().map(|atom| atom.row).collect();
+        let index = access::index(&rows, width, PAIRS_MAX);
+        Self {
+            atoms,
+            rows,
+            index,
+            width,
+        }
+    }
+
+    /// Compares the index at several limits, and gives one of them.
+    pub fn compare(&self, inputs: &mut Inputs, report: &mut Report) -> usize {
+        let limits = self.limits(inputs);
+        for &limit in &limits {
+            self.compare_at(inputs, report, limit);
+        }
+        inputs.one_of(&limits)
+    }
+
+    /// 0, 1, the full number, one less, one more, 500 and any; for a large index a small limit and, now and then, a large one.
+    fn limits(&self, inputs: &mut Inputs) -> Vec<usize> {
+        let all = self.index.all;
+        let any = inputs.below(all as u64 + 1) as usize;
+        let around = [all.saturating_sub(1), all, (all + 1).min(PAIRS_MAX)];
+        let small = [0, 1, SMALL_LIMIT];
+        if all <= MANY_PAIRS {
+            return [&small[..], &around, &[any]].concat();
+        }
+        let mut limits = vec![SMALL_LIMIT, inputs.one_of(&small)];
+        if inputs.below(4) == 0 {
+            let large = inputs.one_of(&around);
+            limits.push(inputs.one_of(&[any, large, large]));
+        }
+        limits
+    }
+
+    fn compare_at(&self, inputs: &mut Inputs, report: &mut Report, limit: usize) {
+        let needed = [3 * limit, 16 * limit, limit, 4 * (limit + ATOMS_MAX)];
+        let lengths = needed.map(|length| length + extra(inputs));
+        let mut buffers = IndexBuffers::new(inputs, lengths);
+        let mut expected = buffers.clone();
+        let rows = flat(inputs, &self.rows);
+        let atoms = Atoms {
+            count: self.rows.len(),
+            rows: &rows,
+        };
+        let built = lent::build_index(self.width, atoms, limit, buffers.lend());
+        let count = limit.min(self.index.all);
+        let (pairs, rows) = (&self.index.pairs[..count], &self.index.rows[..count]);
+        expected.write(pairs, rows, &self.order(count));
+        expected.work.clone_from(&buffers.work);
+        let cut = self.is_cut(limit);
+        let theirs = (Ok(Built { pairs: count, cut }), expected);
+        report.reach("indexes that are cut", cut);
+        report.reach("indexes of 262,144 pairs", count == PAIRS_MAX);
+        let input = (self.width, limit, &self.rows);
+        report.compare(Kind::Index, &input, &(built, buffers), &theirs);
+    }
+
+    /// The Rust's order list, slots from `count` upward left out.
+    fn order(&self, count: usize) -> Vec<u32> {
+        let order = self.index.order.iter().filter(|&&slot| slot < count);
+        order.map(|&slot| slot as u32).collect()
+    }
+
+    /// Whether the Rust lists more than the limit. Where it lists as many as it can, only the plain statement tells.
+    fn is_cut(&self, limit: usize) -> bool {
+        if limit == PAIRS_MAX && self.index.all == PAIRS_MAX {
+            return spec::index(&self.rows, self.width, limit).cut;
+        }
+        self.index.all > limit
+    }
+
+    /// The bank with the first pairs of the index.
+    pub fn lent(&self, limit: usize) -> Lent {
+        let count = limit.min(self.index.all);
+        Lent {
+            atoms: self.atoms.clone(),
+            pairs: self.index.rows[..count].to_vec(),
+            width: self.width,
+        }
+    }
+}

@@ -1,0 +1,87 @@
+//! Differential runs: the originals of binsnake/cobra (`oracle`) and Simjaldek through its binding (`simjaldek`) get the same random
+//! inputs, and every result is compared. Refusals, which the originals don't have, are compared with the plain statement of the
+//! specification's table. Only the differences D1 and D2 of docs/DIFFERENCES.md may appear; `searches` recognises them by rule.
+//!
+//! A run is rounds 0, 1, 2 and so on until there are as many comparisons as asked for. A round's inputs come from the seed and the
+//! round's number alone, so that a difference can be run again by both.
+
+mod banks;
+mod buffers;
+mod formulas;
+mod indexes;
+mod refused;
+pub mod report;
+mod searches;
+mod words;
+
+use oracle::inputs::Inputs;
+use oracle::made::banks::BankInput;
+
+use indexes::Setting;
+use report::Report;
+
+/// The variable counts.
+const VARIABLE_COUNTS: [u32; 6] = [1, 2, 3, 4, 5, 6];
+/// The same where indexes follow, by how often they come: of six variables they cost the Rust a hundred times as much as of one.
+const INDEX_VARIABLE_COUNTS: [u32; 24] = [
+    1, 1, 1, 1, 1, 1, 1, 1, 1, 2, 2, 2, 2, 2, 2, 2, 3, 3, 3, 4, 4, 5, 6, 6,
+];
+
+/// Banks of a round; the last gets indexes and searches.
+const BANKS: usize = 4;
+
+/// Rounds until at least `count` results are compared.
+pub fn run(seed: u64, count: u64) -> Report {
+    let mut report = Report::new(seed);
+    let mut number = 0;
+    while report.comparisons() < count {
+        round(seed, number, &mut report);
+        number += 1;
+    }
+    report
+}
+
+/// One round: banks, indexes and searches, formulas, words, and what is refused.
+pub fn round(seed: u64, number: u64, report: &mut Report) {
+    report.begin(number);
+    let start = Inputs::from_seed(number).word();
+    let inputs = &mut Inputs::from_seed(seed ^ start);
+    for _ in 1..BANKS {
+        let input = bank_input(inputs, &VARIABLE_COUNTS);
+        banks::compare(inputs, report, &input);
+    }
+    let input = bank_input(inputs, &INDEX_VARIABLE_COUNTS);
+    let width = input.width;
+    let atoms = banks::compare(inputs, report, &input);
+    banks::compare_rows(inputs, report, &atoms, width);
+    let setting = Setting::new(atoms, other_width(inputs, width));
+    let limit = setting.compare(inputs, report);
+    searches::compare(inputs, report, &setting.lent(limit));
+    let made = searches::made(inputs);
+    searches::compare(inputs, report, &made);
+    formulas::compare(inputs, report, &input.points, width);
+    words::compare(inputs, report);
+    refused::compare(inputs, report);
+}
+
+/// Points and target of any style.
+fn bank_input(inputs: &mut Inputs, variable_counts: &[u32]) -> BankInput {
+    let num_vars = inputs.one_of(variable_counts);
+    let width = any_width(inputs);
+    BankInput::of_any_style(inputs, num_vars, width)
+}
+
+/// A width from 1 to 64, the small ones more often.
+fn any_width(inputs: &mut Inputs) -> u32 {
+    let most = inputs.one_of(&[4, 12, 64, 64]);
+    1 + inputs.below(most) as u32
+}
+
+/// The width of index and search: mostly the bank's.
+fn other_width(inputs: &mut Inputs, width: u32) -> u32 {
+    match inputs.below(8) {
+        0 => 1 + inputs.below(u64::from(width)) as u32,
+        1 => any_width(inputs),
+        _ => width,
+    }
+}
