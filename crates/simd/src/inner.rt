@@ -109,12 +109,12 @@ pub fn same_row(rows: &[u64], slot: usize, row: [u64; 16]) -> bool
     ensures { λ r. ⌜ r ≡ sameRow (partAt 16 (now (rows .entry)) slot) row ⌝ }
 {
     let base = ROW_WORDS * slot;
-    let mut i: usize = 0;
-    while i < ROW_WORDS {
-        if rows[base + i] != row[i] {
+    let mut word: usize = 0;
+    while word < ROW_WORDS {
+        if rows[base + word] != row[word] {
             return false;
         }
-        i += 1;
+        word += 1;
     }
     true
 }

@@ -14,10 +14,10 @@ use Rattle.simd.proofs.inner.same_row.Statement.{statement}
 use Rattle.simd.proofs.inner.same_row.Tie as tie
 
 abbrev Inv-loop : tie.InvT-loop
-Inv-loop rows slot row base i₀ i = (i ≤ 16) × ((k : ℕ) → k < i → getD rows (base + k) 0 ≡ getD row k 0)
+Inv-loop rows slot row base word₀ word = (word ≤ 16) × ((k : ℕ) → k < word → getD rows (base + k) 0 ≡ getD row k 0)
 
 abbrev μ-loop : tie.MeasureT-loop
-μ-loop rows slot row base i₀ i = 16 - i
+μ-loop rows slot row base word₀ word = 16 - word
 
 mul-base : tie.Need-mul-base Inv-loop μ-loop
 mul-base c = search needs
@@ -44,11 +44,11 @@ returns : tie.Need-returns Inv-loop μ-loop
 returns c =
     let t = c .before .before .before in
     let s = t .before .args in
-    let at = getD-part 16 (s .rows .now) (s .slot) (t .loop .i) (omega arith) in
-    sym (same-row-not (partAt 16 (s .rows .now) (s .slot)) (s .t3) (λ e. c .if1 .taken (sym at ∙ ap (λ (l : List ℕ). getD l (t .loop .i) 0) e)))
+    let at = getD-part 16 (s .rows .now) (s .slot) (t .loop .word) (omega arith) in
+    sym (same-row-not (partAt 16 (s .rows .now) (s .slot)) (s .t3) (λ e. c .if1 .taken (sym at ∙ ap (λ (l : List ℕ). getD l (t .loop .word) 0) e)))
 
-add-i : tie.Need-add-i Inv-loop μ-loop
-add-i c = search needs
+add-word : tie.Need-add-word Inv-loop μ-loop
+add-word c = search needs
 
 loop-less : tie.Need-loop-less Inv-loop μ-loop
 loop-less c = search needs
@@ -56,7 +56,7 @@ loop-less c = search needs
 loop-again : tie.Need-loop-again Inv-loop μ-loop
 loop-again c =
     let t = c .before .before .before in
-    (omega arith, below-more _ (t .loop .i) (t .loop .inv .1) (c .if1 .left))
+    (omega arith, below-more _ (t .loop .word) (t .loop .inv .1) (c .if1 .left))
 
 returns-2 : tie.Need-returns-2 Inv-loop μ-loop
 returns-2 c =
@@ -81,7 +81,7 @@ same-row-spec =
     mul-if1-2
     array-read-if1
     returns
-    add-i
+    add-word
     loop-less
     loop-again
     returns-2)
