@@ -18,8 +18,9 @@ use Rattle.simd.specs.declared.Gate.the-variants.{And, Or, Xor, Add, Mul}
 use Rattle.simd.proofs.GateLaws.{gate-comm}
 use Rattle.simd.proofs.Rows.{same-row-eq, same-row-refl}
 use Rattle.arith.specs.Lists.{countUp, In}
-use Rattle.index.specs.Index.{Trial, Pair, Index, holds, firstC, trialsUpTo, trialsWith, trialsOfGate, trialsOf, trialRow, pairOf, rowsIn, listed, ended, tryPair, tryAll, noPairs, indexOf, addNew, allPairs}
-use Rattle.index.specs.Facts.{Holds, noPair, SoundPair, SoundPairs, NoneLost, IndexIsSound, AtMostLimit, UncutLosesNone, CutExactly, FirstOfAll, FirstPairs, AllAreSound, AllLoseNone}
+use Rattle.index.specs.Index.{Trial, Pair, Index, holds, firstC, trialsUpTo, trialsWith, trialsOfGate, trialsOf, trialRow, pairOf, rowsIn, addNew, allPairs, indexOf}
+use Rattle.index.specs.Turns.{listed, ended, tryPair, tryAll, noPairs, turnsOf}
+use Rattle.index.specs.Facts.{Holds, noPair, SoundPair, SoundPairs, NoneLost, IndexIsSound, AtMostLimit, UncutLosesNone, ByTurns, FirstPairs, AllAreSound, AllLoseNone}
 use Rattle.arith.proofs.Lists.{false-true, bool-cases, in-left, in-right, in-map, map-in, in-flat, flat-in, in-count, count-in, in-at, in-place}
 
 -- ---- rows that are held
@@ -201,10 +202,6 @@ module _ (w : ℕ) (gates : List Gate) (bank : List (List ℕ)) where
       (try-cases w L bank ix t (λ (x : Index). SoundPairs w gates bank (x .pairs)) (λ _. s) (λ _ _. s) (λ _ _ _. s)
       (λ _ a p _. sound-more (ix .pairs) t (trials-in gates (length bank) t (i t (inl refl))) a p s) (λ _ _ _ _. s))
 
-pub index-is-sound : IndexIsSound
-unfolding indexOf
-index-is-sound w L gates bank = sound-all w gates bank L (trialsOf gates (length bank)) noPairs (λ _ h. h) (sound-none w gates bank)
-
 -- ---- an index that was cut stays as it is
 module _ (w L : ℕ) (bank : List (List ℕ)) where
   pub stays-cut : (ts : List Trial) (ix : Index) → ix .cut ≡ true → tryAll w L bank ix ts ≡ ix
@@ -292,23 +289,25 @@ module _ (w L : ℕ) (bank : List (List ℕ)) where
             mark = ap (λ (x : Index). x .cut) stay ∙ sym (lt-ltb L _ (omega (arith, b .long, length-snoc (ix .pairs) (pairOf w bank t))));
           }
 
-module _ (w L : ℕ) (gates : List Gate) (bank : List (List ℕ)) where
-  of-all : First w L bank (allPairs w gates bank) (indexOf w L gates bank)
-  unfolding indexOf allPairs
-  of-all = firsts w L bank (trialsOf gates (length bank)) noPairs refl (omega arith)
-
-pub cut-exactly : CutExactly
-cut-exactly w L gates bank = of-all w L gates bank .mark
-
-pub first-of-all : FirstOfAll
-first-of-all w L gates bank = of-all w L gates bank .first
+pub by-turns : ByTurns
+unfolding turnsOf indexOf allPairs
+by-turns w L gates bank =
+    let all = firsts w L bank (trialsOf gates (length bank)) noPairs refl (omega arith) in
+    ap₂ (λ (ps : List Pair) (mark : Bool). record { pairs = ps; cut = mark }) (all .first) (all .mark)
 
 pub first-pairs : FirstPairs
-first-pairs w L M gates bank h =
-    first-of-all w L gates bank ∙ sym (take-take L M (allPairs w gates bank) h) ∙ ap (λ (l : List Pair). take L l) (sym (first-of-all w M gates bank))
+unfolding indexOf
+first-pairs w L M gates bank h = sym (take-take L M (allPairs w gates bank) h)
 
 pub at-most-limit : AtMostLimit
-at-most-limit w L gates bank = rw (first-of-all w L gates bank, length-take) (omega arith)
+unfolding indexOf
+at-most-limit w L gates bank = rw length-take (omega arith)
+
+pub index-is-sound : IndexIsSound
+unfolding turnsOf
+index-is-sound w L gates bank =
+    subst (λ (ix : Index). SoundPairs w gates bank (ix .pairs)) (by-turns w L gates bank)
+    (sound-all w gates bank L (trialsOf gates (length bank)) noPairs (λ _ h. h) (sound-none w gates bank))
 
 -- ---- uncut, no row is lost
 module _ (w L : ℕ) (bank : List (List ℕ)) where
@@ -347,15 +346,15 @@ module _ (w L : ℕ) (bank : List (List ℕ)) where
         | inr p ↦ inr (subst (λ r. In r (rowsIn (tryAll w L bank (tryPair w L bank ix u) ts .pairs))) q (grows ts (tryPair w L bank ix u) _ p))
       ]
 
-module _ (w L : ℕ) (gates : List Gate) (bank : List (List ℕ)) (uncut : indexOf w L gates bank .cut ≡ false) where
+module _ (w L : ℕ) (gates : List Gate) (bank : List (List ℕ)) (uncut : turnsOf w L gates bank .cut ≡ false) where
   abbrev Kept : List ℕ → Type 0
-  Kept r = Holds bank r ⊎ Holds (rowsIn (indexOf w L gates bank .pairs)) r
+  Kept r = Holds bank r ⊎ Holds (rowsIn (turnsOf w L gates bank .pairs)) r
 
   tried-kept : (t : Trial) → In t (trialsOf gates (length bank)) → Kept (trialRow w bank t)
-  unfolding indexOf
+  unfolding turnsOf
   tried-kept t h = elim (covers w L bank (trialsOf gates (length bank)) noPairs uncut t h) [ inl a ↦ inl (in-slot bank _ a) | inr p ↦ inr (in-slot _ _ p) ]
 
-  none-lost : NoneLost w gates bank (indexOf w L gates bank .pairs)
+  none-lost : NoneLost w gates bank (turnsOf w L gates bank .pairs)
   unfolding trialRow
   none-lost g i b c hb hc =
       elim (decLt b c) [
@@ -373,16 +372,24 @@ module _ (w L : ℕ) (gates : List Gate) (bank : List (List ℕ)) (uncut : index
       ]
 
 pub uncut-loses-none : UncutLosesNone
-uncut-loses-none = none-lost
+uncut-loses-none w L gates bank =
+    subst (λ (ix : Index). ix .cut ≡ false → NoneLost w gates bank (ix .pairs)) (by-turns w L gates bank) (none-lost w L gates bank)
 
 -- ---- all pairs, as the index whose limit is their number
-whole : (w : ℕ) (gates : List Gate) (bank : List (List ℕ)) → indexOf w (length (allPairs w gates bank)) gates bank .pairs ≡ allPairs w gates bank
-whole w gates bank = first-of-all w (length (allPairs w gates bank)) gates bank ∙ take-all (length (allPairs w gates bank)) (allPairs w gates bank) (omega arith)
+module _ (w : ℕ) (gates : List Gate) (bank : List (List ℕ)) where
+  abbrev number : ℕ
+  number = length (allPairs w gates bank)
+
+  whole : indexOf w number gates bank .pairs ≡ allPairs w gates bank
+  unfolding indexOf
+  whole = take-all number (allPairs w gates bank) (omega arith)
+
+  unmarked : indexOf w number gates bank .cut ≡ false
+  unfolding indexOf
+  unmarked = le-ltb number number (omega arith)
 
 pub all-are-sound : AllAreSound
-all-are-sound w gates bank = subst (SoundPairs w gates bank) (whole w gates bank) (index-is-sound w (length (allPairs w gates bank)) gates bank)
+all-are-sound w gates bank = subst (SoundPairs w gates bank) (whole w gates bank) (index-is-sound w (number w gates bank) gates bank)
 
 pub all-lose-none : AllLoseNone
-all-lose-none w gates bank =
-    subst (NoneLost w gates bank) (whole w gates bank)
-    (uncut-loses-none w (length (allPairs w gates bank)) gates bank (cut-exactly w (length (allPairs w gates bank)) gates bank ∙ le-ltb (length (allPairs w gates bank)) (length (allPairs w gates bank)) (omega arith)))
+all-lose-none w gates bank = subst (NoneLost w gates bank) (whole w gates bank) (uncut-loses-none w (number w gates bank) gates bank (unmarked w gates bank))

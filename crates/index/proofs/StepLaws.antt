@@ -12,7 +12,8 @@ use Rattle.valmap.specs.Map.{Held, Searchable}
 use Rattle.valmap.proofs.MapLaws.{held-put-insert}
 use Rattle.index.specs.declared.inner.Job.{Job}
 use Rattle.index.specs.declared.inner.Tally.{Tally}
-use Rattle.index.specs.Index.{Trial, Pair, Index, holds, rowsOf, rowsIn, trialRow, pairOf, listed, ended, tryPair, tryAll}
+use Rattle.index.specs.Index.{Trial, Pair, Index, holds, rowsOf, rowsIn, trialRow, pairOf}
+use Rattle.index.specs.Turns.{listed, ended, tryPair, tryAll}
 use Rattle.index.specs.Build.{pairPart}
 use Rattle.index.specs.Steps.{bankArea, bankBits, Ready, Is, Ran, Listable, ListedPair, InsertedPair}
 use Rattle.arith.proofs.Lists.{false-true}

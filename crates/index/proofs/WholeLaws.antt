@@ -14,9 +14,11 @@ use Rattle.order.proofs.OrderLaws.{order-same}
 use Rattle.index.specs.declared.inner.Job.{Job}
 use Rattle.index.specs.declared.inner.Tally.{Tally}
 use Rattle.index.specs.declared.IndexAnswer.the-variants.{Built, Refused}
-use Rattle.index.specs.Index.{Pair, allGates, rowsOf, rowsIn, trialsOf, tryAll, noPairs, indexOf}
+use Rattle.index.specs.Index.{Pair, allGates, rowsOf, rowsIn, trialsOf, indexOf}
+use Rattle.index.specs.Turns.{tryAll, noPairs, turnsOf}
 use Rattle.index.specs.Build.{pairPart, pairRow, Arrays, Summary, indexRefusal, lentIndex, IndexBuilt}
 use Rattle.index.specs.Steps.{headRoom, Ready, Is, Ran, Prepared, Fits, Made}
+use Rattle.index.proofs.IndexLaws.{by-turns}
 use Rattle.index.proofs.RowLaws.{length-rowsOf, rows-written}
 use Rattle.index.proofs.Passing.{Passed}
 
@@ -50,9 +52,10 @@ is-start pairs listed = record { count = refl; mark = refl; pairs-are = refl; ro
 module _ (w count limit bits : ℕ) (rows pairs listed order work′ pairs′ listed′ order′ : List ℕ) (r : Tally) where
   is-whole : Ran (jobOf w count limit bits) rows pairs listed 0 work′ pairs′ listed′ r (trialsOf allGates count)
       → Is pairs listed pairs′ listed′ (r .pairs) (r .cut) (lentIndex w count rows limit)
-  unfolding indexOf
+  unfolding turnsOf
   is-whole ran =
-      subst (Is pairs listed pairs′ listed′ (r .pairs) (r .cut)) (ap (λ (k : ℕ). tryAll w limit (rowsOf count rows) noPairs (trialsOf allGates k)) (sym (length-rowsOf count rows)))
+      subst (Is pairs listed pairs′ listed′ (r .pairs) (r .cut))
+      (ap (λ (k : ℕ). tryAll w limit (rowsOf count rows) noPairs (trialsOf allGates k)) (sym (length-rowsOf count rows)) ∙ by-turns w limit allGates (rowsOf count rows))
       (ran .index pairs listed noPairs (is-start pairs listed))
 
   pub made-is : Ran (jobOf w count limit bits) rows pairs listed 0 work′ pairs′ listed′ r (trialsOf allGates count) → order′ ≡ orderOf (r .pairs) listed′ ++ drop (r .pairs) order

@@ -4,13 +4,13 @@ use mathlib.Core.Bool.{false}
 use mathlib.Core.Logic.{_⊎_}
 use mathlib.Core.List.{List, []}
 use Prim.Native.Nat.{ℕ, _≤_, _<_}
-use lib.Dec.{ltb}
 use lib.ListN.{length, getD, take}
 use Rattle.simd.specs.Gates.{gateRow}
 use Rattle.simd.specs.declared.Gate.{Gate}
 use Rattle.simd.specs.declared.Gate.the-variants.{And}
 use Rattle.arith.specs.Lists.{In}
-use Rattle.index.specs.Index.{Pair, Index, indexOf, rowsIn, allPairs}
+use Rattle.index.specs.Index.{Pair, indexOf, rowsIn, allPairs}
+use Rattle.index.specs.Turns.{turnsOf}
 
 -- some slot has the row
 pub record Holds (rows : List (List ℕ)) (row : List ℕ) : Type 0 where
@@ -51,14 +51,12 @@ AtMostLimit = (w L : ℕ) (gates : List Gate) (bank : List (List ℕ)) → lengt
 abbrev pub UncutLosesNone : Type 0
 UncutLosesNone = (w L : ℕ) (gates : List Gate) (bank : List (List ℕ)) → indexOf w L gates bank .cut ≡ false → NoneLost w gates bank (indexOf w L gates bank .pairs)
 
--- 01, Uncut means: cut exactly if the new rows, each counted once, are more than L
-abbrev pub CutExactly : Type 0
-CutExactly = (w L : ℕ) (gates : List Gate) (bank : List (List ℕ)) → indexOf w L gates bank .cut ≡ ltb L (length (allPairs w gates bank))
+-- 01, Index: a row held by bank or index is skipped, a new row when L pairs are listed ends the build and sets the mark, nothing else does. So built, an
+-- index is the first L of all new rows, each counted once, and is cut exactly if there are more
+abbrev pub ByTurns : Type 0
+ByTurns = (w L : ℕ) (gates : List Gate) (bank : List (List ℕ)) → turnsOf w L gates bank ≡ indexOf w L gates bank
 
--- 01, Index: smaller L gives its first L pairs; and every index is the first L of all
-abbrev pub FirstOfAll : Type 0
-FirstOfAll = (w L : ℕ) (gates : List Gate) (bank : List (List ℕ)) → indexOf w L gates bank .pairs ≡ take L (allPairs w gates bank)
-
+-- 01, Index: smaller L gives its first L pairs
 abbrev pub FirstPairs : Type 0
 FirstPairs = (w L M : ℕ) (gates : List Gate) (bank : List (List ℕ)) → L ≤ M → indexOf w L gates bank .pairs ≡ take L (indexOf w M gates bank .pairs)
 

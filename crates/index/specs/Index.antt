@@ -1,10 +1,10 @@
 -- The pair index of a bank. "Bank", "atom", "row", "pair", "index" and "cut" are 01's terms: an atom is one of the bank's rows here, and a pair is a gate
 -- of two atoms with the row that it gives. The gates are a parameter. Assumes nothing.
-use mathlib.Core.Bool.{Bool, true, false}
+use mathlib.Core.Bool.{Bool, true, false, _||_, cond}
 use mathlib.Core.List.{List, [], _∷_, _++_, map, flatMap}
 use Prim.Native.Nat.{ℕ, zero, suc, _-_}
 use lib.Dec.{ltb}
-use lib.ListN.{getD, length}
+use lib.ListN.{getD, length, take}
 use Rattle.arith.specs.Parts.{partAt}
 use Rattle.simd.specs.Gates.{gateRow, sameRow}
 use Rattle.simd.specs.declared.Gate.{Gate}
@@ -82,52 +82,19 @@ pairOf w bank t = record { gate = t .gate; b = t .b; c = t .c; row = trialRow w 
 unfoldable pub rowsIn : List Pair → List (List ℕ)
 rowsIn pairs = map (λ (p : Pair). p .row) pairs
 
--- an index with one pair more, and an index that ended
-abbrev pub listed : Index → Pair → Index
-listed index p = record { pairs = index .pairs ++ (p ∷ []); cut = false }
-
-abbrev pub ended : Index → Index
-ended index = record { pairs = index .pairs; cut = true }
-
--- 01, Index: a row held by bank or index is skipped; a new row when L pairs are listed ends the build, and nothing else sets the mark
-unfoldable pub tryPair : ℕ → ℕ → List (List ℕ) → Index → Trial → Index
-unfolding holds rowsIn trialRow
-tryPair w L bank index t =
-    elim (index .cut) [
-      | true ↦ index
-      | false ↦ elim (holds bank (trialRow w bank t)) [
-        | true ↦ index
-        | false ↦ elim (holds (rowsIn (index .pairs)) (trialRow w bank t)) [
-          | true ↦ index
-          | false ↦ elim (ltb (length (index .pairs)) L) [ true ↦ listed index (pairOf w bank t) | false ↦ ended index ]
-        ]
-      ]
-    ]
-
-unfoldable pub tryAll : ℕ → ℕ → List (List ℕ) → Index → List Trial → Index
-unfolding tryPair
-tryAll w L bank index [] = index
-tryAll w L bank index (t ∷ ts) = tryAll w L bank (tryPair w L bank index t) ts
-
-abbrev pub noPairs : Index
-noPairs = record { pairs = []; cut = false }
-
--- 01, Index: the index of a bank with the limit L
-unfoldable pub indexOf : ℕ → ℕ → List Gate → List (List ℕ) → Index
-unfolding tryAll trialsOf
-indexOf w L gates bank = tryAll w L bank noPairs (trialsOf gates (length bank))
-
 -- `seen`, and after it a pair for each row that neither bank nor `seen` holds, each row once
 unfoldable pub addNew : ℕ → List (List ℕ) → List Pair → List Trial → List Pair
 unfolding holds rowsIn trialRow
 addNew w bank seen [] = seen
 addNew w bank seen (t ∷ ts) =
-    elim (holds bank (trialRow w bank t)) [
-      | true ↦ addNew w bank seen ts
-      | false ↦ elim (holds (rowsIn seen) (trialRow w bank t)) [ true ↦ addNew w bank seen ts | false ↦ addNew w bank (seen ++ (pairOf w bank t ∷ [])) ts ]
-    ]
+    cond (holds bank (trialRow w bank t) || holds (rowsIn seen) (trialRow w bank t)) (addNew w bank seen ts) (addNew w bank (seen ++ (pairOf w bank t ∷ [])) ts)
 
 -- 01, Uncut means: the rows that the gates give over the bank's atoms and that the bank doesn't hold, each counted once. No limit and no mark
 unfoldable pub allPairs : ℕ → List Gate → List (List ℕ) → List Pair
 unfolding addNew trialsOf
 allPairs w gates bank = addNew w bank [] (trialsOf gates (length bank))
+
+-- 01, Index: the first L of them; a new row when L pairs are listed ends the build, and the mark is set exactly then
+unfoldable pub indexOf : ℕ → ℕ → List Gate → List (List ℕ) → Index
+unfolding allPairs
+indexOf w L gates bank = record { pairs = take L (allPairs w gates bank); cut = ltb L (length (allPairs w gates bank)) }

@@ -11,7 +11,8 @@ use Rattle.simd.specs.Gates.{gateNumber}
 use Rattle.simd.specs.declared.Gate.{Gate}
 use Rattle.index.specs.declared.inner.Job.{Job}
 use Rattle.index.specs.declared.inner.Tally.{Tally}
-use Rattle.index.specs.Index.{Trial, Index, rowsIn, rowsOf, tryAll}
+use Rattle.index.specs.Index.{Trial, Index, rowsIn, rowsOf}
+use Rattle.index.specs.Turns.{tryAll}
 use Rattle.index.specs.Build.{atomsMax, limitMax, pairPart, pairRow, spread, orderList, lentIndex}
 
 abbrev pub bankBits : ℕ

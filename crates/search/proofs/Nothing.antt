@@ -10,60 +10,51 @@ use Rattle.arith.specs.Parts.{partAt}
 use Rattle.arith.proofs.Lists.{false-true, is-false}
 use Rattle.product.specs.Trying.{fits, tryEverything}
 use Rattle.search.specs.Answer.{searchRefusal}
-use Rattle.search.specs.Demand.{Equal, OfTwo, OfGate, NoProduct, OwnIndex, Uncut, NothingExactly, DemandThree}
+use Rattle.search.specs.Demand.{Equal, NoProduct, OwnIndex, Uncut, NothingExactly, DemandThree}
 use Rattle.search.proofs.Trials.{NoneFits, nothing-fits, fits-nothing, fits-equal, equal-fits}
-use Rattle.search.proofs.OwnPairs.{Has, answered, atom-long, gate-row-long, pair-gated, none-lost}
+use Rattle.search.proofs.Passing.{none-refused}
+use Rattle.search.proofs.OwnPairs.{Has, Fit, answered, zero-of, atom-long, gate-row-long, pair-gated, none-lost}
 
-module _ {w count : ℕ} {atoms : List ℕ} {L n : ℕ} {listed order : List ℕ} (own : OwnIndex w count atoms L n listed order) (target : List ℕ) (long : length target ≡ 16) where
+module _ {w count : ℕ} {atoms : List ℕ} {L n : ℕ} {listed order : List ℕ} (own : OwnIndex w count atoms L n listed order) (fit : Fit w count atoms L) (target : List ℕ)
+    (long : length target ≡ 16) where
   abbrev None : Type 0
   None = NoneFits w count atoms n listed target
 
   -- a row that is an atom's or a pair's, and fits with atom a
-  with-row : None → (a : ℕ) (row : List ℕ) → a < count → length row ≡ 16 → Equal w target (partAt 16 atoms a) row → Has count atoms row ⊎ Has n listed row → ⊥
-  with-row lacks a row ha l e h = elim h [
-    | inl i ↦ false-true (sym (lacks .two a (i .slot) ha (i .below)) ∙ subst (λ (r : List ℕ). fits w target (partAt 16 atoms a) r ≡ true) (sym (i .is)) fit)
-    | inr i ↦ false-true (sym (lacks .pair a (i .slot) ha (i .below)) ∙ subst (λ (r : List ℕ). fits w target (partAt 16 atoms a) r ≡ true) (sym (i .is)) fit)
+  with-row : None → (a : ℕ) (row : List ℕ) → a < count → length row ≡ 16 → Has count atoms row ⊎ Has n listed row → Equal w target (partAt 16 atoms a) row → ⊥
+  with-row lacks a row ha l h e = elim h [
+    | inl i ↦ false-true (sym (lacks .two a (i .slot) ha (i .below)) ∙ subst (λ (r : List ℕ). fits w target (partAt 16 atoms a) r ≡ true) (sym (i .is)) fitting)
+    | inr i ↦ false-true (sym (lacks .pair a (i .slot) ha (i .below)) ∙ subst (λ (r : List ℕ). fits w target (partAt 16 atoms a) r ≡ true) (sym (i .is)) fitting)
   ]
     where
-      fit : fits w target (partAt 16 atoms a) row ≡ true
-      fit = equal-fits w target (partAt 16 atoms a) row long (atom-long own a ha) l e
+      fitting : fits w target (partAt 16 atoms a) row ≡ true
+      fitting = equal-fits w target (partAt 16 atoms a) row long (atom-long fit a ha) l e
 
-  no-product : Uncut w count atoms L → None → OfTwo w count atoms target ⊎ OfGate w count atoms target → ⊥
-  no-product uncut lacks (inl x) =
-      with-row lacks (x .a) _ (x .a-below) (atom-long own (x .b) (x .b-below)) (x .equal) (inl (record { slot = x .b; below = x .b-below; is = refl }))
-  no-product uncut lacks (inr x) =
-      with-row lacks (x .a) _ (x .a-below) (gate-row-long own (x .g) (x .b) (x .c) (x .b-below) (x .c-below)) (x .equal) (none-lost own uncut (x .g) (x .b) (x .c) (x .b-below) (x .c-below))
+  no-product : Uncut w count atoms L → None → NoProduct w count atoms target
+  no-product uncut lacks = record {
+    of-two = λ a b ha hb. with-row lacks a _ ha (atom-long fit b hb) (inl (record { slot = b; below = hb; is = refl }));
+    of-gate = λ g a b c ha hb hc. with-row lacks a _ ha (gate-row-long fit g b c hb hc) (none-lost fit own uncut g b c hb hc);
+  }
 
   -- this half holds of a cut index too
   none-fits : NoProduct w count atoms target → None
   none-fits lacks = record {
-    two = λ a b ha hb. is-false _ (λ e. lacks (inl (record {
-      a = a;
-      b = b;
-      a-below = ha;
-      b-below = hb;
-      equal = fits-equal w target (partAt 16 atoms a) (partAt 16 atoms b) long (atom-long own a ha) (atom-long own b hb) e;
-    })));
+    two = λ a b ha hb. is-false _ (λ e.
+        lacks .of-two a b ha hb (fits-equal w target (partAt 16 atoms a) (partAt 16 atoms b) long (atom-long fit a ha) (atom-long fit b hb) e));
     pair = λ a s ha hs. is-false _ (λ e.
-        let p = pair-gated own s hs in
-        let wide = gate-row-long own (p .g) (p .b) (p .c) (p .b-below) (p .c-below) in
-        lacks (inr (record {
-          g = p .g;
-          a = a;
-          b = p .b;
-          c = p .c;
-          a-below = ha;
-          b-below = p .b-below;
-          c-below = p .c-below;
-          equal = fits-equal w target (partAt 16 atoms a) _ long (atom-long own a ha) wide (subst (λ (r : List ℕ). fits w target (partAt 16 atoms a) r ≡ true) (p .is) e);
-        })));
+        let p = pair-gated fit own s hs in
+        let wide = gate-row-long fit (p .g) (p .b) (p .c) (p .b-below) (p .c-below) in
+        lacks .of-gate (p .g) a (p .b) (p .c) ha (p .b-below) (p .c-below)
+        (fits-equal w target (partAt 16 atoms a) _ long (atom-long fit a ha) wide (subst (λ (r : List ℕ). fits w target (partAt 16 atoms a) r ≡ true) (p .is) e)));
   }
 
 pub nothing-exactly : NothingExactly
 nothing-exactly w count atoms L n listed order target found own uncut long e =
-    let same = answered (searchRefusal w count atoms n listed order target) (tryEverything w count atoms n listed target) found e .is in (
-      λ is. no-product own target long uncut (nothing-fits w count atoms n listed target (same ∙ is)),
-      λ lacks. sym same ∙ fits-nothing w count atoms n listed target (none-fits own target long lacks),
+    let number = searchRefusal w count atoms n listed order target in
+    let done = answered number (tryEverything w count atoms n listed target) found e in
+    let fit : Fit w count atoms L = record { rows = none-refused w count atoms n listed order target (zero-of number (done .free)) long .atoms-fit } in (
+      λ is. no-product own fit target long uncut (nothing-fits w count atoms n listed target (done .is ∙ is)),
+      λ lacks. sym (done .is) ∙ fits-nothing w count atoms n listed target (none-fits own fit target long lacks),
     )
 
 pub demand-three : DemandThree

@@ -1,12 +1,11 @@
 -- Demand 3, "nothing" is true: the statements. proofs/Nothing has their proofs. Assumes nothing.
 use mathlib.Core.Path.{_≡_}
-use mathlib.Core.Bool.{Bool}
 use mathlib.Core.List.{List}
-use mathlib.Core.Logic.{_⊎_, _↔_}
+use mathlib.Core.Logic.{_↔_}
 use mathlib.Core.Option.{Option, none}
 use Prim.Native.Nat.{ℕ, _*_, _%_, _^_, _≤_, _<_}
-use lib.ListN.{length, getD}
-use Rattle.arith.specs.Parts.{partAt}
+use lib.ListN.{length, getD, take}
+use Rattle.arith.specs.Parts.{partAt, encode}
 use Rattle.arith.specs.Refusal.{answer}
 use Rattle.simd.specs.Gates.{gateRow}
 use Rattle.simd.specs.declared.Gate.{Gate}
@@ -14,9 +13,8 @@ use Rattle.probe.specs.declared.Point.{Point}
 use Rattle.atoms.specs.Encoding as Bank
 use Rattle.bank.specs.declared.BankAnswer.{BankAnswer}
 use Rattle.bank.specs.Build.{BankBuilt, bankSays}
-use Rattle.index.specs.declared.IndexAnswer.{IndexAnswer}
 use Rattle.index.specs.Index.{rowsOf, allGates, allPairs}
-use Rattle.index.specs.Build as Index
+use Rattle.index.specs.Build.{pairRow, orderList, lentIndex}
 use Rattle.product.specs.Trying.{Product}
 use Rattle.search.specs.Answer.{product}
 
@@ -25,27 +23,11 @@ use Rattle.search.specs.Answer.{product}
 abbrev pub Equal : ℕ → List ℕ → List ℕ → List ℕ → Type 0
 Equal w target a b = (j : ℕ) → j < 16 → getD a j 0 * getD b j 0 % 2 ^ w ≡ getD target j 0 % 2 ^ w
 
--- atoms a, b have a × b equal to the target
-pub record OfTwo (w count : ℕ) (atoms target : List ℕ) : Type 0 where
-  pub a : ℕ
-  pub b : ℕ
-  pub a-below : a < count
-  pub b-below : b < count
-  pub equal : Equal w target (partAt 16 atoms a) (partAt 16 atoms b)
-
--- gate g and atoms a, b, c have a × (b g c) equal to the target
-pub record OfGate (w count : ℕ) (atoms target : List ℕ) : Type 0 where
-  pub g : Gate
-  pub a : ℕ
-  pub b : ℕ
-  pub c : ℕ
-  pub a-below : a < count
-  pub b-below : b < count
-  pub c-below : c < count
-  pub equal : Equal w target (partAt 16 atoms a) (gateRow g w (partAt 16 atoms b) (partAt 16 atoms c))
-
-abbrev pub NoProduct : ℕ → ℕ → List ℕ → List ℕ → Type 0
-NoProduct w count atoms target = OfTwo w count atoms target ⊎ OfGate w count atoms target → ⊥
+-- no gate g and atoms a, b, c have a × b or a × (b g c) equal to the target
+pub record NoProduct (w count : ℕ) (atoms target : List ℕ) : Type 0 where
+  pub of-two : (a b : ℕ) → a < count → b < count → Equal w target (partAt 16 atoms a) (partAt 16 atoms b) → ⊥
+  pub of-gate : (g : Gate) (a b c : ℕ) → a < count → b < count → c < count
+      → Equal w target (partAt 16 atoms a) (gateRow g w (partAt 16 atoms b) (partAt 16 atoms c)) → ⊥
 
 -- ---- 01, Built means
 -- the bank's count and rows are as a bank build that wasn't turned back left them, whatever its points, target and width
@@ -63,16 +45,12 @@ pub record BuiltBank (count : ℕ) (atoms : List ℕ) : Type 0 where
   pub says : bankSays r ≡ answer count
   pub rows-are : left .rows ≡ atoms
 
--- an index of its own: count, rows and order list are as an index build that wasn't turned back left them, given that bank as the search gets it and the search's width
+-- an index of its own: count, rows and order list are as an index build that wasn't turned back left them, given that bank as the search gets it and the
+-- search's width: `BuiltIsOwn` of Own says so of every build
 pub record OwnIndex (w count : ℕ) (atoms : List ℕ) (L n : ℕ) (listed order : List ℕ) : Type 0 where
-  pub old : Index.Arrays
-  pub left : Index.Arrays
-  pub r : IndexAnswer
-  pub cut : Bool
-  pub build : Index.IndexBuilt w count atoms L old left r
-  pub says : Index.indexSays r ≡ answer (record { pairs = n; cut = cut })
-  pub rows-are : left .rows ≡ listed
-  pub order-is : left .order ≡ order
+  pub count-is : n ≡ length (lentIndex w count atoms L .pairs)
+  pub rows-are : take (16 * n) listed ≡ encode pairRow (lentIndex w count atoms L .pairs)
+  pub order-is : take n order ≡ orderList (lentIndex w count atoms L .pairs)
 
 -- uncut: the rows that this build's gates give over the bank's atoms and that the bank doesn't hold, each counted once, are at most L
 abbrev pub Uncut : ℕ → ℕ → List ℕ → ℕ → Type 0
