@@ -1,25 +1,52 @@
 //! `differential SEED COUNT`: rounds until so many results are compared. `differential SEED round NUMBER`: that round again.
 //! Exit status 1 where a result differs in a way that docs/DIFFERENCES.md doesn't have.
+//! `differential answers NAME`: the data file of that name of crates/compare/data, the originals' answers for the program that compares.
+//! `differential differences`: where the originals' search differs from the specification, for a reader.
 
 use std::env;
+use std::io::{self, Write};
 use std::process::ExitCode;
 
 use differential::report::Report;
+use oracle::{answers, differences};
 
 fn main() -> ExitCode {
     let arguments: Vec<String> = env::args().skip(1).collect();
-    let Some(report) = asked(&arguments) else {
-        eprintln!("usage: differential SEED COUNT | SEED round NUMBER");
-        return ExitCode::from(2);
-    };
+    match arguments.iter().map(String::as_str).collect::<Vec<_>>()[..] {
+        ["differences"] => {
+            differences::print();
+            ExitCode::SUCCESS
+        }
+        ["answers", name] => {
+            answers::data_file(name).map_or_else(usage, |bytes| print_bytes(&bytes))
+        }
+        ref words => asked(words).map_or_else(usage, |report| told(&report)),
+    }
+}
+
+fn usage() -> ExitCode {
+    eprintln!(
+        "usage: differential SEED COUNT | SEED round NUMBER | answers {} | differences",
+        answers::NAMES.join("|")
+    );
+    ExitCode::from(2)
+}
+
+fn print_bytes(bytes: &[u8]) -> ExitCode {
+    let mut output = io::stdout().lock();
+    output.write_all(bytes).expect("standard output takes all");
+    ExitCode::SUCCESS
+}
+
+fn told(report: &Report) -> ExitCode {
     print!("{report}");
     ExitCode::from(u8::from(report.others() > 0))
 }
 
-/// The report that the arguments ask for.
-fn asked(arguments: &[String]) -> Option<Report> {
+/// The report that the words ask for.
+fn asked(words: &[&str]) -> Option<Report> {
     let number = |text: &str| text.parse::<u64>().ok();
-    match arguments.iter().map(String::as_str).collect::<Vec<_>>()[..] {
+    match *words {
         [seed, count] => Some(differential::run(number(seed)?, number(count)?)),
         [seed, "round", round] => {
             let (seed, round) = (number(seed)?, number(round)?);

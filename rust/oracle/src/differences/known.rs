@@ -1,11 +1,11 @@
 //! The differences by named inputs: those known before, and the smallest that `smallest` finds. Each is asked anew, and both
 //! answers must be as stated.
 
-use oracle::access::{self, Formula, Row};
+use crate::access::{self, Formula, Row};
 
 use super::{Setting, PAIRS_MAX};
-use crate::banks::made::BankInput;
 use crate::inputs::{one_variable, repeated};
+use crate::made::banks::BankInput;
 use crate::spec::formulas::{CONSTANT, VARIABLE};
 use crate::spec::search::{self, Answer};
 

@@ -8,7 +8,7 @@ pub mod known;
 mod random;
 mod smallest;
 
-use oracle::access::{self, AtomView, Cost, Formula, IndexView, Row};
+use crate::access::{self, AtomView, Cost, Formula, IndexView, Row};
 
 use crate::spec::formulas as spec;
 use crate::spec::search::{self, Answer};

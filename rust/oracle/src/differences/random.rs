@@ -1,6 +1,6 @@
 //! Random banks and indexes of one width throughout, where no difference is expected.
 
-use oracle::access::{self, AtomView, Formula, Row};
+use crate::access::{self, AtomView, Formula, Row};
 
 use super::{joined, Setting, PAIRS_MAX};
 use crate::inputs::Inputs;

@@ -6,7 +6,7 @@
 
 use std::collections::HashSet;
 
-use oracle::access::{self, AtomView, Row};
+use crate::access::{self, AtomView, Row};
 
 use super::{repeated_points, Setting, PAIRS_MAX};
 use crate::inputs::one_variable;

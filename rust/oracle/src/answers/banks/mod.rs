@@ -3,9 +3,9 @@
 mod answered;
 mod refused;
 
-pub use oracle::made::banks as made;
+pub use crate::made::banks as made;
 
-use crate::data_file::DataFile;
+use crate::answers::data_file::DataFile;
 
 const ANSWERED: u64 = 11;
 const REFUSED: u64 = 12;

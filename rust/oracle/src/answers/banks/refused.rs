@@ -3,7 +3,7 @@
 
 use super::made::largest;
 use super::REFUSED;
-use crate::data_file::DataFile;
+use crate::answers::data_file::DataFile;
 use crate::inputs::Inputs;
 use crate::spec::bank::{Handed, ARRAY_LENGTHS};
 use crate::spec::refusals::{

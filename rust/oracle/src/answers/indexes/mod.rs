@@ -3,7 +3,7 @@
 mod answered;
 mod refused;
 
-use crate::data_file::DataFile;
+use crate::answers::data_file::DataFile;
 
 const ANSWERED: u64 = 13;
 const REFUSED: u64 = 14;

@@ -1,8 +1,8 @@
 //! The data file probe.txt: words, points, fingerprints and gates on rows.
 
-use oracle::access::{self, Row};
+use crate::access::{self, Row};
 
-use crate::data_file::DataFile;
+use crate::answers::data_file::DataFile;
 use crate::inputs::Inputs;
 use crate::spec::refusals::{NONE, REFUSED_VARS, REFUSED_WIDTH};
 

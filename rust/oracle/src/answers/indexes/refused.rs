@@ -2,7 +2,7 @@
 //! Rust is not asked. Each case states its refusal by hand, and the table must say the same.
 
 use super::REFUSED;
-use crate::data_file::DataFile;
+use crate::answers::data_file::DataFile;
 use crate::spec::index::{Handed, PAIRS_MAX};
 use crate::spec::refusals::{
     least, NONE, REFUSED_COUNT, REFUSED_LENGTH, REFUSED_LIMIT, REFUSED_WIDTH,

@@ -5,7 +5,7 @@ mod candidates_refused;
 mod products;
 mod products_refused;
 
-use crate::data_file::DataFile;
+use crate::answers::data_file::DataFile;
 use crate::spec::lent::Pairs;
 use crate::spec::refusals::{least, NONE};
 

@@ -1,8 +1,8 @@
 //! What the listing program must print: the Rust's bank and index, held against the specification's, as text.
 
-use oracle::access::{self, AtomView, Formula, IndexView, Row};
+use crate::access::{self, AtomView, Formula, IndexView, Row};
 
-use crate::banks::made::BankInput;
+use crate::made::banks::BankInput;
 use crate::spec::formulas::{ADD, AND, CONSTANT, MUL, NEG, NOT, OR, VARIABLE, XOR};
 use crate::spec::index as spec;
 

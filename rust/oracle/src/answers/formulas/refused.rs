@@ -1,11 +1,11 @@
 //! Lines of kind 10: what the specification's table refuses, and close neighbours that it does not. The Rust is not asked.
 //! A named case states its refusals by hand, and the table must say the same.
 
-use oracle::access::Formula;
+use crate::access::Formula;
 
 use super::made::{left_chain, right_chain, unary_chain, Lean, Maker};
 use super::REFUSED;
-use crate::data_file::DataFile;
+use crate::answers::data_file::DataFile;
 use crate::inputs::Inputs;
 use crate::spec::formulas::{Handed, ADD, CONSTANT, GATES, MUL, NEG, NOT, VARIABLE, VARS_MAX, XOR};
 use crate::spec::refusals::{

@@ -4,8 +4,8 @@
 use super::{
     faulty, zero_pairs, Fault, ARRAY_MAX, BAD_WIDTHS, CANDIDATES_REFUSED, HUGE, TOO_LARGE,
 };
-use crate::banks::made::largest;
-use crate::data_file::DataFile;
+use crate::answers::data_file::DataFile;
+use crate::made::banks::largest;
 use crate::spec::index::PAIRS_MAX;
 use crate::spec::lent::Candidates;
 use crate::spec::refusals::{NONE, REFUSED_LENGTH, REFUSED_ORDER, REFUSED_WIDTH, REFUSED_WORD};

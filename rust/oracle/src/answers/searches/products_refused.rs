@@ -2,8 +2,8 @@
 //! The Rust is not asked. Each case states its refusal by hand, and the table must say the same.
 
 use super::{faulty, zero_pairs, Fault, ARRAY_MAX, BAD_WIDTHS, HUGE, PRODUCTS_REFUSED, TOO_LARGE};
-use crate::banks::made::largest;
-use crate::data_file::DataFile;
+use crate::answers::data_file::DataFile;
+use crate::made::banks::largest;
 use crate::spec::index::PAIRS_MAX;
 use crate::spec::lent::Search;
 use crate::spec::refusals::{

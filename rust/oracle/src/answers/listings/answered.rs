@@ -2,8 +2,8 @@
 
 use super::texts::{numbers_of, p2, plain};
 use super::{Listings, LISTING};
-use crate::banks::made::{BankInput, Points, Target, POINT_STYLES, TARGET_STYLES};
 use crate::inputs::{one_variable, Inputs};
+use crate::made::banks::{BankInput, Points, Target, POINT_STYLES, TARGET_STYLES};
 use crate::spec::listing::LIMIT_MAX;
 use crate::spec::refusals::NONE;
 

@@ -1,11 +1,11 @@
 //! Lines of kind 15: lists of candidates, the Rust's held against the specification's; then what is refused.
 
-use oracle::access;
+use crate::access;
 
 use super::{CANDIDATES, NUMBERS_MAX};
-use crate::banks::made::largest;
-use crate::data_file::DataFile;
+use crate::answers::data_file::DataFile;
 use crate::inputs::Inputs;
+use crate::made::banks::largest;
 use crate::spec::lent::{Candidates, Pairs};
 use crate::spec::refusals::{NONE, REFUSED_ORDER, REFUSED_WIDTH, REFUSED_WORD};
 use crate::spec::search as spec;
@@ -411,7 +411,7 @@ fn widths(file: &mut DataFile, inputs: &mut Inputs) {
 #[cfg(test)]
 mod tests {
     use super::{a_solution, Input};
-    use crate::banks::made::largest;
+    use crate::made::banks::largest;
     use crate::spec::search::product_word;
 
     /// For all p and t, over words of one bit more: the Rust's list is the specification's but for what reaches 2^width

@@ -3,9 +3,9 @@
 mod answered;
 mod refused;
 
-pub use oracle::made::formulas as made;
+pub use crate::made::formulas as made;
 
-use crate::data_file::DataFile;
+use crate::answers::data_file::DataFile;
 
 const ANSWERED: u64 = 9;
 const REFUSED: u64 = 10;

@@ -1,10 +1,10 @@
 //! Lines of kind 9: the Rust's values and costs, each held against the specification's.
 
-use oracle::access::{self, Cost, Formula};
+use crate::access::{self, Cost, Formula};
 
 use super::made::{left_chain, right_chain, unary_chain, Lean, Maker};
 use super::ANSWERED;
-use crate::data_file::DataFile;
+use crate::answers::data_file::DataFile;
 use crate::inputs::Inputs;
 use crate::spec::formulas::{self as spec, CONSTANT, GATES, MUL, NEG, NOT, TOKENS_MAX, VARIABLE};
 

@@ -1,14 +1,14 @@
 //! Lines of kind 16: product searches over built banks with indexes of their own, by the specification. The Rust's product
 //! loop and its layer 1 are held against them as far as docs/DIFFERENCES.md has them alike.
 
-use oracle::access::Row;
+use crate::access::Row;
 
 use super::{NUMBERS_MAX, PRODUCTS};
-use crate::banks::made::{largest, BankInput};
-use crate::data_file::DataFile;
+use crate::answers::data_file::DataFile;
 use crate::differences::known::{self, Input};
 use crate::differences::Setting;
 use crate::inputs::{one_variable, repeated, Inputs};
+use crate::made::banks::{largest, BankInput};
 use crate::spec::index as spec;
 use crate::spec::search::{first_stage, fits, is_used, product, Answer};
 

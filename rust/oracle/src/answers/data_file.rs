@@ -10,15 +10,15 @@ pub struct DataFile {
 }
 
 impl DataFile {
-    /// A file with its comment lines: what it has, the subcommand that prints it, and what its lines mean.
-    pub fn with_head(contents: &str, subcommand: &str, lines: &[&str]) -> Self {
+    /// A file with its comment lines: what it has, its name, and what its lines mean.
+    pub fn with_head(contents: &str, name: &str, lines: &[&str]) -> Self {
         let mut file = Self::default();
         file.comment(&format!(
             "Answers of the original Rust (binsnake/cobra, Apache-2.0): {contents}."
         ));
         file.comment("Made in rust/ by:");
         file.comment(&format!(
-            "  COBRA_SRC=<checkout of binsnake/cobra at 72ea8c3334> cargo run --release -p oracle -- {subcommand}"
+            "  COBRA_SRC=<checkout of binsnake/cobra at 72ea8c3334> cargo run --release -p differential -- answers {name}"
         ));
         file.comment("Each line: unsigned decimals parted by one blank, the first is the kind. Inputs that are not named cases come from a");
         file.comment(&format!(

@@ -1,10 +1,10 @@
 //! Lines of kind 11: the Rust's banks, each held against the specification's.
 
-use oracle::access::AtomView;
+use crate::access::AtomView;
 
 use super::made::{BankInput, POINT_STYLES, TARGET_STYLES};
 use super::ANSWERED;
-use crate::data_file::DataFile;
+use crate::answers::data_file::DataFile;
 use crate::digest::digest;
 use crate::inputs::{one_variable, repeated, Inputs};
 use crate::spec::formulas::{CONSTANT, MUL, NOT, VARIABLE};

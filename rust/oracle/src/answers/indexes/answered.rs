@@ -1,12 +1,12 @@
 //! Lines of kind 13: the Rust's indexes, each held against the specification's.
 
-use oracle::access::{self, Row};
+use crate::access::{self, Row};
 
 use super::ANSWERED;
-use crate::banks::made::{BankInput, Points, Target};
-use crate::data_file::DataFile;
+use crate::answers::data_file::DataFile;
 use crate::digest::digest;
 use crate::inputs::{one_variable, repeated, Inputs};
+use crate::made::banks::{BankInput, Points, Target};
 use crate::spec::index as spec;
 use crate::spec::search::order_list;
 

@@ -7,7 +7,7 @@ mod refused;
 mod shapes;
 mod texts;
 
-use crate::data_file::DataFile;
+use crate::answers::data_file::DataFile;
 use crate::spec::listing as spec;
 use crate::spec::refusals::NONE;
 

@@ -2,8 +2,8 @@
 
 use super::texts::{numbers_of, ones, p2, plain, target, POINTS, WIDTH};
 use super::{Listings, LISTING};
-use crate::banks::made::{BankInput, Points, Target};
 use crate::inputs::Inputs;
+use crate::made::banks::{BankInput, Points, Target};
 use crate::spec::listing as spec;
 use crate::spec::refusals::{NONE, REFUSED_VARS};
 

@@ -3,8 +3,8 @@
 use std::iter;
 
 use super::printed::parted;
-use crate::banks::made::BankInput;
 use crate::inputs::one_variable;
+use crate::made::banks::BankInput;
 
 /// Places of the first numbers.
 pub const NUM_VARS: usize = 0;

@@ -1,0 +1,27 @@
+//! What the originals answer, as data files for the program that compares (crates/compare/data). The same sources give the same bytes.
+
+mod banks;
+mod data_file;
+mod formulas;
+mod indexes;
+mod listings;
+mod probe;
+mod searches;
+
+/// The names of the data files.
+pub const NAMES: [&str; 6] = [
+    "probe", "formulas", "banks", "indexes", "searches", "listings",
+];
+
+/// The data file of that name, if there is one. The listings' texts hold bytes of any kind.
+pub fn data_file(name: &str) -> Option<Vec<u8>> {
+    match name {
+        "probe" => Some(probe::data_file().into_bytes()),
+        "formulas" => Some(formulas::data_file().into_bytes()),
+        "banks" => Some(banks::data_file().into_bytes()),
+        "indexes" => Some(indexes::data_file().into_bytes()),
+        "searches" => Some(searches::data_file().into_bytes()),
+        "listings" => Some(listings::data_file()),
+        _ => None,
+    }
+}
