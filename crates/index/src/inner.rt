@@ -2,6 +2,8 @@
 mod maps;
 mod trials;
 
+use simd::ATOMS_MAX;
+use simd::PAIRS_MAX;
 ghost use mathlib.Core.Path.{_≡_};
 ghost use Prim.Native.Nat.{_≤_};
 ghost use Rattle.index.specs.Build.{limitMax, tooShort, refusalOf};
@@ -20,11 +22,6 @@ pub struct Tally {
     pub pairs: usize,
     pub cut: bool,
 }
-
-// The most atoms and pairs.
-pub const ATOMS_MAX: usize = 479;
-
-pub const PAIRS_MAX: usize = 262_144;
 
 // The words of a pair, and of the work area for each pair and atom.
 pub const PAIR_WORDS: usize = 3;

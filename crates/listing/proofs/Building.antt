@@ -17,7 +17,7 @@ use Rattle.atoms.specs.Encoding.{Arrays, written}
 use Rattle.atoms.proofs.Lists.{getD-map}
 use Rattle.atoms.proofs.Encodings.{length-at, row-at}
 use Rattle.atoms.proofs.Banks.{bank-is-sound}
-use Rattle.bank.specs.Phases.{Asked, Phase}
+use Rattle.turns.specs.Phases.{Asked, Phase}
 use Rattle.print.specs.Text.{listingOf}
 use Rattle.print.specs.Printing.{Wrote}
 use Rattle.print.proofs.Decimals.{reads}

@@ -8,8 +8,9 @@ use Rattle.probe.specs.declared.Point.{Point}
 use Rattle.index.specs.Index.{Index, allGates, indexOf}
 use Rattle.atoms.specs.Bank.{Atom}
 use Rattle.atoms.specs.Encoding.{Arrays, padTo}
-use Rattle.bank.specs.Build.{reaches, pointsReach}
-use Rattle.bank.specs.Phases.{Fits}
+use Rattle.simd.specs.Range.{reaches}
+use Rattle.bank.specs.Build.{pointsReach}
+use Rattle.turns.specs.Phases.{Fits}
 use Rattle.print.specs.Printing.{Shown, Holding}
 use Rattle.listing.specs.declared.inner.Counts.{Counts}
 use Rattle.listing.specs.Listing.{countOf, widthOf, limitOf, pointsOf, targetOf}
