@@ -12,7 +12,7 @@ use Rattle.probe.specs.declared.Point.{Point}
 use Rattle.atoms.specs.Bank.{Atom}
 use Rattle.atoms.specs.Stock.{bankOf}
 use Rattle.atoms.specs.Encoding.{padTo}
-use Rattle.index.specs.Index.{allGates, indexOf}
+use Rattle.pairs.specs.Index.{allGates, indexOf}
 use Rattle.simd.specs.Range.{reaches}
 use Rattle.bank.specs.Build.{pointsReach}
 use Rattle.parse.specs.declared.Parse.{Parse}

@@ -5,7 +5,7 @@ use Prim.Native.Nat.{ℕ, _+_, _*_, _^_, _≤_}
 use lib.ListN.{length, take, drop}
 use Rattle.arith.specs.Refusal.{refuse}
 use Rattle.probe.specs.declared.Point.{Point}
-use Rattle.index.specs.Index.{Index, allGates, indexOf}
+use Rattle.pairs.specs.Index.{Index, allGates, indexOf}
 use Rattle.atoms.specs.Bank.{Atom}
 use Rattle.atoms.specs.Encoding.{Arrays, padTo}
 use Rattle.simd.specs.Range.{reaches}

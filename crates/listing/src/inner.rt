@@ -1,7 +1,7 @@
 // The numbers of a text as a bank build wants them, what is refused of them, and the listing of the rest.
 use bank::Sizes;
 use entry::ATOM_TOKENS;
-use index::inner::PAIR_WORDS;
+use pairs::PAIR_WORDS;
 use pool::COST_NUMBERS;
 use pool::WORK_WORDS;
 use probe::Point;

@@ -14,7 +14,7 @@ use Rattle.expr.specs.Cost.{infoOf}
 use Rattle.solve.specs.Equation.{zerosOf, used, solves}
 use Rattle.solve.proofs.Used.{used-few}
 use Rattle.atoms.specs.Stock.{seedsOf, bankOf}
-use Rattle.index.specs.Index.{allGates, indexOf}
+use Rattle.pairs.specs.Index.{allGates, indexOf}
 use Rattle.simd.specs.Range.{reaches}
 use Rattle.bank.specs.Build.{pointsReach}
 use Rattle.listing.specs.Listing.{listing}
