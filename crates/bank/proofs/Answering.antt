@@ -16,8 +16,9 @@ use Rattle.atoms.specs.Encoding.{Arrays, written}
 use Rattle.atoms.specs.Stock.{bankOf}
 use Rattle.atoms.proofs.Banks.{bank-few}
 use Rattle.bank.specs.declared.BankAnswer.the-variants.{Built, Refused}
-use Rattle.bank.specs.Build.{sizesOf, tooSmall, reaches, pointsReach, bankRefusal, BankBuilt}
-use Rattle.bank.specs.Phases.{Asked, Phase, Fits}
+use Rattle.simd.specs.Range.{reaches}
+use Rattle.bank.specs.Build.{sizesOf, tooSmall, pointsReach, bankRefusal, BankBuilt}
+use Rattle.turns.specs.Phases.{Asked, Phase, Fits}
 
 -- ---- where nothing is refused
 -- neither this condition nor one after it

@@ -3,9 +3,10 @@ use mathlib.Core.Path.{_≡_}
 use mathlib.Core.Bool.{Bool, true, false, _||_}
 use mathlib.Core.List.{List, [], _∷_}
 use Prim.Native.Nat.{ℕ, _*_, _^_}
-use lib.Dec.{leb, ltb}
+use lib.Dec.{ltb}
 use lib.ListN.{length, take}
 use Rattle.arith.specs.Refusal.{refuse, unlessRefused, badCount, badWidth, Outcome, refused, answer, outcome}
+use Rattle.simd.specs.Range.{reaches}
 use Rattle.probe.specs.declared.Point.{Point}
 use Rattle.atoms.specs.Stock.{bankOf}
 use Rattle.atoms.specs.Encoding.{Arrays, written}
@@ -33,11 +34,6 @@ tooSmall s =
     || (ltb (s .costs) (3 * 479)
     || (ltb (s .rows) (16 * 479)
     || ltb (s .work) (4 * 479)))))
-
--- some word is not below m
-unfoldable pub reaches : ℕ → List ℕ → Bool
-reaches m [] = false
-reaches m (x ∷ xs) = leb m x || reaches m xs
 
 -- some point has a word not below m among its first nv
 unfoldable pub pointsReach : ℕ → ℕ → List Point → Bool

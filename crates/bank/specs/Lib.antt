@@ -1,4 +1,2 @@
 -- What the contracts of this crate, and the definitions above it, cite.
 pub mod Build
-pub mod Lookup
-pub mod Phases

@@ -7,9 +7,6 @@ ghost use Rattle.filter.specs.Sweeps.{inClass, Small};
 ghost use Rattle.candidates.specs.Candidates.{candidatesRefusal};
 ghost use Rattle.candidates.specs.Steps.{Kept};
 
-// The most pairs.
-pub const PAIRS_MAX: usize = 262_144;
-
 // The refusal of the candidates; 0 for none.
 pub fn candidates_refusal(
     w: u32,
@@ -41,7 +38,7 @@ pub fn candidates_refusal(
     if mask < t {
         return 5;
     }
-    if PAIRS_MAX < pairs {
+    if simd::PAIRS_MAX < pairs {
         return 7;
     }
     if order::inner::is_order(listed, pairs, slots) {

@@ -7,7 +7,8 @@ use borrow.Author.Tests.{ltb-false}
 use lib.Dec.{ltb}
 use Rattle.arith.specs.Refusal.{badWidth}
 use Rattle.arith.proofs.Refusals.{within, passed, neither, enough}
-use Rattle.index.specs.Build.{atomsMax, limitMax, tooShort, refusalOf}
+use Rattle.pairs.specs.Encoding.{atomsMax, limitMax}
+use Rattle.index.specs.Build.{tooShort, refusalOf}
 
 pub or-last : {a b c d : Bool} (e : Bool) → a ≡ false → b ≡ false → c ≡ false → d ≡ false → e ≡ (a || (b || (c || (d || e))))
 or-last e p q r s = rw (p, q, r, s)

@@ -11,15 +11,18 @@ use Rattle.arith.specs.Refusal.{refused, answer}
 use Rattle.arith.proofs.Refusals.{unless-refused, unless-not}
 use Rattle.order.specs.Order.{firstWord, orderOf}
 use Rattle.order.proofs.OrderLaws.{order-same}
-use Rattle.index.specs.declared.inner.Job.{Job}
-use Rattle.index.specs.declared.inner.Tally.{Tally}
+use Rattle.maps.specs.declared.inner.Job.{Job}
+use Rattle.trial.specs.declared.inner.Tally.{Tally}
 use Rattle.index.specs.declared.IndexAnswer.the-variants.{Built, Refused}
-use Rattle.index.specs.Index.{Pair, allGates, rowsOf, rowsIn, trialsOf, indexOf}
-use Rattle.index.specs.Turns.{tryAll, noPairs, turnsOf}
-use Rattle.index.specs.Build.{pairPart, pairRow, Arrays, Summary, indexRefusal, lentIndex, IndexBuilt}
-use Rattle.index.specs.Steps.{headRoom, Ready, Is, Ran, Prepared, Fits, Made}
-use Rattle.index.proofs.IndexLaws.{by-turns}
-use Rattle.index.proofs.RowLaws.{length-rowsOf, rows-written}
+use Rattle.pairs.specs.Index.{Pair, allGates, rowsOf, rowsIn, trialsOf, indexOf}
+use Rattle.pairs.specs.Turns.{tryAll, noPairs, turnsOf}
+use Rattle.pairs.specs.Encoding.{pairPart, pairRow}
+use Rattle.index.specs.Build.{Arrays, Summary, indexRefusal, lentIndex, IndexBuilt}
+use Rattle.maps.specs.Area.{headRoom, Prepared}
+use Rattle.trial.specs.Steps.{Ready, Is, Ran}
+use Rattle.index.specs.Steps.{Fits, Made}
+use Rattle.pairs.proofs.IndexLaws.{by-turns}
+use Rattle.pairs.proofs.RowLaws.{length-rowsOf, rows-written}
 use Rattle.index.proofs.Passing.{Passed}
 
 abbrev pub jobOf : ℕ → ℕ → ℕ → ℕ → Job

@@ -1,48 +1,30 @@
 -- What an index build answers and leaves, from its inputs alone. Assumes nothing.
 use mathlib.Core.Path.{_≡_}
 use mathlib.Core.Bool.{Bool, _||_}
-use mathlib.Core.List.{List, [], _∷_, _++_}
-use Prim.Native.Nat.{ℕ, _+_, _*_, _/_, _<_}
+use mathlib.Core.List.{List, _++_}
+use Prim.Native.Nat.{ℕ, _+_, _/_, _<_}
 use lib.Dec.{ltb}
 use lib.ListN.{length, drop}
 use Rattle.arith.specs.Parts.{encode}
 use Rattle.arith.specs.Refusal.{refuse, unlessRefused, badWidth, Outcome, refused, answer, outcome}
-use Rattle.simd.specs.Gates.{gateNumber}
 use Rattle.order.specs.Order.{orderOf}
+use Rattle.pairs.specs.Index.{Pair, Index, allGates, rowsOf, indexOf}
+use Rattle.pairs.specs.Encoding.{atomsMax, limitMax, pairPart, pairRow, spread}
 use Rattle.index.specs.declared.IndexAnswer.{IndexAnswer}
 use Rattle.index.specs.declared.IndexAnswer.the-variants.{Built, Refused}
-use Rattle.index.specs.Index.{Pair, Index, allGates, rowsOf, indexOf}
 
 -- ---- refusals
--- 01, Turned back, 7: more than 479 atoms claimed; and 3: L above 262,144
-abbrev pub atomsMax : ℕ
-atomsMax = 479
-
-abbrev pub limitMax : ℕ
-limitMax = 262144
-
 -- 01, Turned back, 4: a lent array shorter than its count needs, or than stated: 3L u32, 16L u64 and L u32, and a work area of 4 × (L + 479) u32
 abbrev pub tooShort : ℕ → ℕ → ℕ → ℕ → ℕ → ℕ → ℕ → Bool
 tooShort count L rows pairs pairRows order work =
     ltb (rows / 16) count || (ltb (pairs / 3) L || (ltb (pairRows / 16) L || (ltb order L || ltb (work / 4) (L + atomsMax))))
 
--- the same numbers in the table's order, by the arrays' lengths
+-- 01, Turned back: 2, 3, 4, 7 in the table's order, by the arrays' lengths
 abbrev pub refusalOf : ℕ → ℕ → ℕ → ℕ → ℕ → ℕ → ℕ → ℕ → ℕ
 refusalOf w count L rows pairs pairRows order work =
     refuse (badWidth w) 2 (refuse (ltb limitMax L) 3 (refuse (tooShort count L rows pairs pairRows order work) 4 (refuse (ltb atomsMax count) 7 0)))
 
 -- ---- the arrays
--- 01, From heap ..: gate, b, c per pair
-abbrev pub pairPart : Pair → List ℕ
-pairPart p = gateNumber (p .gate) ∷ (p .b ∷ (p .c ∷ []))
-
-abbrev pub pairRow : Pair → List ℕ
-pairRow p = p .row
-
--- 01, From heap ..: places beyond the counts in a lent output stay unchanged
-abbrev pub spread : ℕ → (Pair → List ℕ) → List Pair → List ℕ → List ℕ
-spread s part pairs old = encode part pairs ++ drop (s * length pairs) old
-
 -- 01, From heap ..: all n pair slots, strictly ascending by (first row word, slot)
 abbrev pub orderList : List Pair → List ℕ
 orderList pairs = orderOf (length pairs) (encode pairRow pairs)

@@ -1,34 +1,16 @@
-// What the index build is made of: its refusals, the maps in the work area, and the trials.
-mod maps;
-mod trials;
-
+// What the index build is made of: its refusals, and the build into arrays that are tested.
+use maps::inner::Job;
+use pairs::PAIR_WORDS;
+use simd::ATOMS_MAX;
+use simd::PAIRS_MAX;
+use trial::inner::Tally;
 ghost use mathlib.Core.Path.{_≡_};
 ghost use Prim.Native.Nat.{_≤_};
-ghost use Rattle.index.specs.Build.{limitMax, tooShort, refusalOf};
+ghost use Rattle.pairs.specs.Encoding.{limitMax};
+ghost use Rattle.index.specs.Build.{tooShort, refusalOf};
 ghost use Rattle.index.specs.Steps.{Fits, Made};
 
-// What a build is of: the width, how many atoms and at most how many pairs, and the bits of the pairs' map.
-pub struct Job {
-    pub w: u32,
-    pub count: usize,
-    pub limit: usize,
-    pub bits: u32,
-}
-
-// How many pairs are listed, and whether a new row ended the build.
-pub struct Tally {
-    pub pairs: usize,
-    pub cut: bool,
-}
-
-// The most atoms and pairs.
-pub const ATOMS_MAX: usize = 479;
-
-pub const PAIRS_MAX: usize = 262_144;
-
-// The words of a pair, and of the work area for each pair and atom.
-pub const PAIR_WORDS: usize = 3;
-
+// The words of the work area for each pair and atom.
 const WORK_WORDS: usize = 4;
 
 // Whether an array is too short, by the arrays' lengths: refusal 4.
@@ -101,15 +83,15 @@ pub fn build(
     requires { ⌜ Fits w count limit (now rows) (now work) (now pairs) (now listed) (now slots) ⌝ }
     ensures { λ r. ⌜ Made w count limit (now (rows .entry)) (now (pairs .entry)) (now (listed .entry)) (now (slots .entry)) (now (pairs .exit)) (now (listed .exit)) (now (slots .exit)) r ⌝ }
 {
-    let bits = maps::map_bits(limit, count);
+    let bits = maps::inner::map_bits(limit, count);
     let job = Job {
         w,
         count,
         limit,
         bits,
     };
-    maps::prepare(work, rows, job);
-    let tally = trials::try_gates(work, pairs, listed, rows, job);
+    maps::inner::prepare(work, rows, job);
+    let tally = trials::inner::try_gates(work, pairs, listed, rows, job);
     let n = tally.pairs;
     order::inner::sort_order(slots, work, listed, n);
     tally

@@ -6,18 +6,19 @@ use native.Mathlib.Omega.{arith}
 use lib.ListN.{length, getD, length-map}
 use lib.Seq.{ext-getD}
 use Rattle.probe.specs.declared.Point.{Point}
-use Rattle.index.specs.declared.inner.Tally.{Tally}
-use Rattle.index.specs.Index.{Index, allGates, rowsOf, indexOf}
-use Rattle.index.specs.Build.{spread, pairPart, lentIndex}
+use Rattle.trial.specs.declared.inner.Tally.{Tally}
+use Rattle.pairs.specs.Index.{Index, allGates, rowsOf, indexOf}
+use Rattle.pairs.specs.Encoding.{spread, pairPart}
+use Rattle.index.specs.Build.{lentIndex}
 use Rattle.index.specs.Steps as index
-use Rattle.index.proofs.RowLaws.{length-rowsOf, rows-at}
+use Rattle.pairs.proofs.RowLaws.{length-rowsOf, rows-at}
 use Rattle.atoms.specs.Bank.{Atom, noAtom}
 use Rattle.atoms.specs.Stock.{bankOf}
 use Rattle.atoms.specs.Encoding.{Arrays, written}
 use Rattle.atoms.proofs.Lists.{getD-map}
 use Rattle.atoms.proofs.Encodings.{length-at, row-at}
 use Rattle.atoms.proofs.Banks.{bank-is-sound}
-use Rattle.bank.specs.Phases.{Asked, Phase}
+use Rattle.turns.specs.Phases.{Asked, Phase}
 use Rattle.print.specs.Text.{listingOf}
 use Rattle.print.specs.Printing.{Wrote}
 use Rattle.print.proofs.Decimals.{reads}

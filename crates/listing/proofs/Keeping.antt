@@ -18,7 +18,8 @@ use Rattle.arith.proofs.Refusals.{within}
 use Rattle.probe.specs.declared.Point.{Point}
 use Rattle.atoms.specs.Encoding.{padTo}
 use Rattle.atoms.specs.Stock.{bankOf}
-use Rattle.bank.specs.Build.{reaches, pointsReach}
+use Rattle.simd.specs.Range.{reaches}
+use Rattle.bank.specs.Build.{pointsReach}
 use Rattle.parse.specs.Text.{rightMany, ifRight, numbersOf, wordsOf, readText}
 use Rattle.parse.specs.Reading.{Keeps, Given}
 use Rattle.print.specs.Text.{refusedLine, listingOf}

@@ -10,7 +10,8 @@ use Rattle.arith.specs.Refusal.{refuse, outsideOf, badCount, badWidth}
 use Rattle.arith.proofs.Refusals.{refused-here, refused-later, or-later, within, passed}
 use Rattle.probe.specs.declared.Point.{Point}
 use Rattle.bank.specs.declared.Sizes.{Sizes}
-use Rattle.bank.specs.Build.{reaches, pointsReach, bankRefusal}
+use Rattle.simd.specs.Range.{reaches}
+use Rattle.bank.specs.Build.{pointsReach, bankRefusal}
 use Rattle.listing.specs.Listing.{countOf, widthOf, limitOf, pointsOf, targetOf, numbersRefusal}
 use Rattle.listing.specs.Steps.{InRange, reachRefusal}
 

@@ -12,8 +12,9 @@ use Rattle.probe.specs.declared.Point.{Point}
 use Rattle.atoms.specs.Bank.{Atom}
 use Rattle.atoms.specs.Stock.{bankOf}
 use Rattle.atoms.specs.Encoding.{padTo}
-use Rattle.index.specs.Index.{allGates, indexOf}
-use Rattle.bank.specs.Build.{reaches, pointsReach}
+use Rattle.pairs.specs.Index.{allGates, indexOf}
+use Rattle.simd.specs.Range.{reaches}
+use Rattle.bank.specs.Build.{pointsReach}
 use Rattle.parse.specs.declared.Parse.{Parse}
 use Rattle.parse.specs.Text.{readText}
 use Rattle.parse.specs.Reading.{Reads}

@@ -5,11 +5,12 @@ use Prim.Native.Nat.{ℕ, _+_, _*_, _^_, _≤_}
 use lib.ListN.{length, take, drop}
 use Rattle.arith.specs.Refusal.{refuse}
 use Rattle.probe.specs.declared.Point.{Point}
-use Rattle.index.specs.Index.{Index, allGates, indexOf}
+use Rattle.pairs.specs.Index.{Index, allGates, indexOf}
 use Rattle.atoms.specs.Bank.{Atom}
 use Rattle.atoms.specs.Encoding.{Arrays, padTo}
-use Rattle.bank.specs.Build.{reaches, pointsReach}
-use Rattle.bank.specs.Phases.{Fits}
+use Rattle.simd.specs.Range.{reaches}
+use Rattle.bank.specs.Build.{pointsReach}
+use Rattle.turns.specs.Phases.{Fits}
 use Rattle.print.specs.Printing.{Shown, Holding}
 use Rattle.listing.specs.declared.inner.Counts.{Counts}
 use Rattle.listing.specs.Listing.{countOf, widthOf, limitOf, pointsOf, targetOf}

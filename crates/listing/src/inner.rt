@@ -1,11 +1,11 @@
 // The numbers of a text as a bank build wants them, what is refused of them, and the listing of the rest.
 use bank::Sizes;
 use entry::ATOM_TOKENS;
-use index::inner::PAIR_WORDS;
-use pool::ATOMS_MAX;
+use pairs::PAIR_WORDS;
 use pool::COST_NUMBERS;
 use pool::WORK_WORDS;
 use probe::Point;
+use simd::ATOMS_MAX;
 use simd::ROW_WORDS;
 ghost use mathlib.Core.Path.{_≡_};
 ghost use Prim.Native.Nat.{_+_, _≤_};
@@ -13,7 +13,7 @@ ghost use lib.ListN.{length};
 ghost use Rattle.arith.specs.Refusal.{outsideOf};
 ghost use Rattle.atoms.specs.Stock.{bankOf};
 ghost use Rattle.pool.specs.Pool.{arrays};
-ghost use Rattle.bank.specs.Phases.{Asked};
+ghost use Rattle.turns.specs.Phases.{Asked};
 ghost use Rattle.print.specs.Text.{listingOf};
 ghost use Rattle.print.specs.Printing.{Wrote, textMax};
 ghost use Rattle.listing.specs.Listing.{countOf, pointsOf, targetOf, numbersRefusal, textFor};
@@ -149,7 +149,7 @@ fn build_both(
     requires { ⌜ Lent (arrays (now lengths) (now ops) (now operands) (now costs) (now rows)) (now work) (now pairs) (now listed) (now slots) ⌝ }
     ensures { λ r. ⌜ Both (now (lengths .exit)) (now (ops .exit)) (now (operands .exit)) (now (costs .exit)) (now (pairs .exit)) r (bankOf nv w points target) (bankIndex w limit (bankOf nv w points target)) ⌝ }
 {
-    let atoms = bank::inner::build(
+    let atoms = phases::inner::build(
         lengths,
         ops,
         operands,

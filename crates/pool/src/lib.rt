@@ -2,8 +2,7 @@
 pub mod inner;
 mod parts;
 
-// The most atoms of a bank.
-pub const ATOMS_MAX: usize = 479;
+use simd::ATOMS_MAX;
 
 // The map of a bank's rows has 2^MAP_BITS heads, and a link for each atom.
 pub const MAP_BITS: u32 = 10;

@@ -18,8 +18,8 @@ use Rattle.expr.proofs.Tokens.{tokens-length}
 use Rattle.atoms.specs.Bank.{Atom, noAtom}
 use Rattle.atoms.specs.Encoding.{Arrays, written}
 use Rattle.atoms.proofs.Encodings.{form-back, length-at, ops-at, operands-at, cost-at}
-use Rattle.index.specs.Index.{Pair, Index}
-use Rattle.index.specs.Build.{spread, pairPart}
+use Rattle.pairs.specs.Index.{Pair, Index}
+use Rattle.pairs.specs.Encoding.{spread, pairPart}
 use Rattle.print.specs.Text.{field, headLine, costLine, tokenText, tokensText, formulaLine, pairLine, listingOf}
 use Rattle.print.specs.Printing.{Wrote, linesText, numbersLine, numbersAt, formulaAt, nextText, Holding}
 use Rattle.print.proofs.Decimals.{then, nothing, reads}

@@ -11,8 +11,8 @@ use Rattle.expr.specs.declared.Token.{Token}
 use Rattle.expr.specs.Formula.{tokens}
 use Rattle.atoms.specs.Bank.{Atom}
 use Rattle.atoms.specs.Encoding.{Arrays, written}
-use Rattle.index.specs.Index.{Index}
-use Rattle.index.specs.Build.{spread, pairPart}
+use Rattle.pairs.specs.Index.{Index}
+use Rattle.pairs.specs.Encoding.{spread, pairPart}
 use Rattle.print.specs.Text.{decimal, field, tokenText, formulaLine, listingOf}
 
 -- l′ is l with the text laid from place i on, and r is the place after it

@@ -10,7 +10,7 @@ use Rattle.expr.specs.declared.Token.{Token}
 use Rattle.expr.specs.declared.Token.the-variants.{Constant, Variable, Binary, Not, Neg, Bad}
 use Rattle.expr.specs.declared.Cost.{Cost}
 use Rattle.atoms.specs.Bank.{Atom}
-use Rattle.index.specs.Index.{Pair, Index}
+use Rattle.pairs.specs.Index.{Pair, Index}
 
 -- the decimal digits of n, at most k of them, the most significant first
 unfoldable pub digitsOf : ℕ → ℕ → List ℕ

@@ -1,5 +1,6 @@
 // What the product search calls with rows, counts and an order list that it has tested.
 use filter::inner::Residue;
+use simd::ATOMS_MAX;
 use simd::AtomSlot;
 use simd::PairSlot;
 use solve::inner::Solution;
@@ -33,9 +34,6 @@ enum PairFit {
     At(PairSlot),
     Nothing,
 }
-
-// The most atoms of a bank.
-const ATOMS_MAX: usize = 479;
 
 // One sample of each sixteen pairs.
 const SAMPLES_MAX: usize = 16384;

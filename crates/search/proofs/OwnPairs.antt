@@ -20,12 +20,13 @@ use Rattle.arith.proofs.Refusals.{unless-not}
 use Rattle.simd.specs.Gates.{gateRow}
 use Rattle.simd.specs.declared.Gate.{Gate}
 use Rattle.simd.specs.declared.Gate.the-variants.{And, Or, Xor, Add, Mul}
-use Rattle.index.specs.Index.{Pair, allGates, rowsOf, rowsIn, allPairs, indexOf}
-use Rattle.index.specs.Build.{pairRow, orderList, indexRefusal, lentIndex, Summary, summaryOf}
-use Rattle.index.specs.Facts.{Holds, noPair}
+use Rattle.pairs.specs.Index.{Pair, allGates, rowsOf, rowsIn, allPairs, indexOf}
+use Rattle.pairs.specs.Encoding.{pairRow}
+use Rattle.index.specs.Build.{orderList, indexRefusal, lentIndex, Summary, summaryOf}
+use Rattle.pairs.specs.Facts.{Holds, noPair}
 use Rattle.order.proofs.OrderLaws.{order-length}
-use Rattle.index.proofs.IndexLaws.{index-is-sound, uncut-loses-none, rows-length}
-use Rattle.index.proofs.RowLaws.{length-rowsOf, rows-at, gate-long}
+use Rattle.pairs.proofs.IndexLaws.{index-is-sound, uncut-loses-none, rows-length}
+use Rattle.pairs.proofs.RowLaws.{length-rowsOf, rows-at, gate-long}
 use Rattle.index.proofs.Passing.{none-refused}
 use Rattle.atoms.proofs.Lists.{getD-map}
 use Rattle.search.specs.Demand.{OwnIndex, Uncut}

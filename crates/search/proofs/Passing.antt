@@ -12,7 +12,7 @@ use Rattle.arith.specs.Refusal.{badWidth, answer, refused}
 use Rattle.arith.proofs.Refusals.{within, passed, neither, enough, unless-refused, unless-not}
 use Rattle.order.specs.Order.{isOrder}
 use Rattle.filter.specs.Refusals.{shortPairs, tooManyPairs, wrongOrder}
-use Rattle.bank.specs.Build.{reaches}
+use Rattle.simd.specs.Range.{reaches}
 use Rattle.product.specs.Trying.{Product, tryEverything}
 use Rattle.product.specs.Stages.{Lent}
 use Rattle.search.specs.Answer.{searchRefusal, product}

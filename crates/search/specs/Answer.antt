@@ -8,7 +8,7 @@ use lib.Dec.{ltb}
 use lib.ListN.{length}
 use Rattle.arith.specs.Refusal.{refuse, badWidth, Outcome, refused, answer, outcome}
 use Rattle.filter.specs.Refusals.{shortPairs, tooManyPairs, wrongOrder}
-use Rattle.bank.specs.Build.{reaches}
+use Rattle.simd.specs.Range.{reaches}
 use Rattle.search.specs.declared.ProductAnswer.{ProductAnswer}
 use Rattle.search.specs.declared.ProductAnswer.the-variants.{Atoms, AtomPair, Nothing, Refused}
 use Rattle.product.specs.Trying.{Product, tryEverything}

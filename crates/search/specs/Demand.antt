@@ -13,8 +13,9 @@ use Rattle.probe.specs.declared.Point.{Point}
 use Rattle.atoms.specs.Encoding as Bank
 use Rattle.bank.specs.declared.BankAnswer.{BankAnswer}
 use Rattle.bank.specs.Build.{BankBuilt, bankSays}
-use Rattle.index.specs.Index.{rowsOf, allGates, allPairs}
-use Rattle.index.specs.Build.{pairRow, orderList, lentIndex}
+use Rattle.pairs.specs.Index.{rowsOf, allGates, allPairs}
+use Rattle.pairs.specs.Encoding.{pairRow}
+use Rattle.index.specs.Build.{orderList, lentIndex}
 use Rattle.product.specs.Trying.{Product}
 use Rattle.search.specs.Answer.{product}
 

@@ -26,13 +26,13 @@ pub fn search_refusal(
     if slots.len() < pairs {
         return 4;
     }
-    if bank::inner::row_reaches(target, w) {
+    if simd::inner::row_reaches(target, w) {
         return 5;
     }
-    if index::inner::ATOMS_MAX < count {
+    if simd::ATOMS_MAX < count {
         return 7;
     }
-    if index::inner::PAIRS_MAX < pairs {
+    if simd::PAIRS_MAX < pairs {
         return 7;
     }
     if !order::inner::is_order(listed, pairs, slots) {

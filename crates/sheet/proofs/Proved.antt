@@ -14,8 +14,9 @@ use Rattle.expr.specs.Cost.{infoOf}
 use Rattle.solve.specs.Equation.{zerosOf, used, solves}
 use Rattle.solve.proofs.Used.{used-few}
 use Rattle.atoms.specs.Stock.{seedsOf, bankOf}
-use Rattle.index.specs.Index.{allGates, indexOf}
-use Rattle.bank.specs.Build.{reaches, pointsReach}
+use Rattle.pairs.specs.Index.{allGates, indexOf}
+use Rattle.simd.specs.Range.{reaches}
+use Rattle.bank.specs.Build.{pointsReach}
 use Rattle.listing.specs.Listing.{listing}
 use Rattle.sheet.specs.Inputs.{again, points, bank2, bank9, input1, output1}
 use Rattle.sheet.specs.Sheet.{Sheet}

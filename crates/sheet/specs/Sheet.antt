@@ -12,8 +12,8 @@ use Rattle.expr.specs.Cost.{costOf}
 use Rattle.solve.specs.Equation.{used, solves}
 use Rattle.atoms.specs.Bank.{Atom, noAtom}
 use Rattle.atoms.specs.Stock.{seedsOf}
-use Rattle.index.specs.Index.{Index, allGates, indexOf}
-use Rattle.index.specs.Facts.{noPair}
+use Rattle.pairs.specs.Index.{Index, allGates, indexOf}
+use Rattle.pairs.specs.Facts.{noPair}
 use Rattle.bank.specs.Build.{bankRefusal}
 use Rattle.listing.specs.Listing.{listing}
 use Rattle.sheet.specs.Inputs.{again, points, zeros, bank2, bank9, target10, exact, input1, output1}

@@ -1,3 +1,4 @@
 -- The laws of this crate, which the crates above cite too.
 pub mod GateLaws
 pub mod Rows
+pub mod Reaching

@@ -2,10 +2,11 @@
 use crate::Gate;
 use crate::ROW_WORDS;
 ghost use mathlib.Core.Path.{_≡_};
-ghost use Prim.Native.Nat.{_+_, _*_, _≤_};
+ghost use Prim.Native.Nat.{_+_, _*_, _^_, _≤_};
 ghost use lib.ListN.{length};
 ghost use Rattle.arith.specs.Parts.{partAt};
 ghost use Rattle.simd.specs.Gates.{gateOf, gateRow, residualOf, residualRow, sameRow};
+ghost use Rattle.simd.specs.Range.{reaches};
 
 // One place of a gate.
 pub fn gate_apply_lane(a: u64, b: u64, g: Gate, w: u32) -> u64
@@ -117,4 +118,20 @@ pub fn same_row(rows: &[u64], slot: usize, row: [u64; 16]) -> bool
         word += 1;
     }
     true
+}
+
+// Whether one of the row's words is not below 2^w.
+pub fn row_reaches(row: [u64; 16], w: u32) -> bool
+    requires { ⌜ w ≤ 64 ⌝ }
+    ensures { λ r. ⌜ r ≡ reaches (2 ^ w) row ⌝ }
+{
+    let mask = arith::bitmask(w);
+    let mut j: usize = 0;
+    while j < ROW_WORDS {
+        if mask < row[j] {
+            return true;
+        }
+        j += 1;
+    }
+    false
 }

@@ -13,6 +13,11 @@ pub struct AtomSlot(pub u32);
 
 pub struct PairSlot(pub u32);
 
+// The most atoms of a bank, and the most pairs of an index.
+pub const ATOMS_MAX: usize = 479;
+
+pub const PAIRS_MAX: usize = 262_144;
+
 pub enum Gate {
     And,
     Or,

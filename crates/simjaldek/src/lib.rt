@@ -13,7 +13,7 @@ ghost use Rattle.probe.specs.Points.{madePoints};
 ghost use Rattle.probe.specs.FormulaRow.{probed};
 ghost use Rattle.probe.specs.Fingerprint.{fingerprintOf};
 ghost use Rattle.pool.specs.Pool.{arrays};
-ghost use Rattle.bank.specs.Lookup.{found, handRefusal};
+ghost use Rattle.lookup.specs.Lookup.{found, handRefusal};
 ghost use Rattle.index.specs.Build.{arraysOf};
 ghost use Rattle.search.specs.Answer.{product};
 ghost use Rattle.simjaldek.specs.Slices.{rowIn, shortRow, rowRefusal, pointsIn, pointsRefusal, gateAt, twoShort, threeShort, gateRefusal};
@@ -97,7 +97,7 @@ pub extern "C" fn simjaldek_product_search(
     replies::of_product(search::product_search(w, count, atoms, pairs, listed, slots, row))
 }
 
-// `bank::find_row`: kind 1 the slot a, 0 none. Refuses 2, 4, 5, 7.
+// `lookup::find_row`: kind 1 the slot a, 0 none. Refuses 2, 4, 5, 7.
 #[no_mangle]
 pub extern "C" fn simjaldek_find_row(w: u32, count: usize, rows: &[u64], row: &[u64]) -> Reply
     ensures { λ r. ⌜ r ≡ slotReply (orElse (rowRefusal w (now (row .entry))) (found w count (now (rows .entry)) (rowIn (now (row .entry))))) ⌝ }
@@ -107,7 +107,7 @@ pub extern "C" fn simjaldek_find_row(w: u32, count: usize, rows: &[u64], row: &[
         return refused(refusal);
     }
     let asked = simd::inner::load_row(row, 0);
-    replies::of_slot(bank::find_row(w, count, rows, asked))
+    replies::of_slot(lookup::find_row(w, count, rows, asked))
 }
 
 // `index::build_index`: a pairs, and b 1 where the build was cut. Refuses 2, 3, 4, 7.
@@ -314,7 +314,7 @@ pub extern "C" fn simjaldek_gate_matches(
     replies::of_match(simd::gate_matches(left, right, whole, loaders::gate_of(g), w))
 }
 
-// Where `bank::atom_row` begins: the place in words of the first of the slot's sixteen. Refuses 4, 7.
+// Where `lookup::atom_row` begins: the place in words of the first of the slot's sixteen. Refuses 4, 7.
 #[no_mangle]
 pub extern "C" fn simjaldek_atom_row(rows: &[u64], count: usize, slot: u32) -> Reply
     ensures { λ r. ⌜ r ≡ placeReply (outcome (handRefusal count (now (rows .entry)) slot) (16 * slot)) ⌝ }
@@ -322,7 +322,7 @@ pub extern "C" fn simjaldek_atom_row(rows: &[u64], count: usize, slot: u32) -> R
     if rows.len() / simd::ROW_WORDS < count {
         return refused(4);
     }
-    if pool::ATOMS_MAX < count {
+    if simd::ATOMS_MAX < count {
         return refused(7);
     }
     if count <= slot as usize {

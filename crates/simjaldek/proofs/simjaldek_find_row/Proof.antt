@@ -4,7 +4,7 @@ use mathlib.Core.List.{List}
 use mathlib.Core.Option.{Option}
 use Prim.Native.Nat.{ℕ}
 use Rattle.arith.specs.Refusal.{Outcome}
-use Rattle.bank.specs.Lookup.{found}
+use Rattle.lookup.specs.Lookup.{found}
 use Rattle.simjaldek.specs.Slices.{rowIn, rowRefusal}
 use Rattle.simjaldek.specs.Reply.{slotReply}
 use Rattle.simjaldek.proofs.Early.{told-early, told-call, row-long}

@@ -1,7 +1,7 @@
 -- `replies::of_slot` meets its contract: each case has its numbers. Assumes nothing.
 use mathlib.Core.Path.{sym, ap, _∙_}
-use Rattle.bank.specs.declared.FoundRow.{FoundRow}
-use Rattle.bank.specs.Lookup.{foundSays}
+use Rattle.lookup.specs.declared.FoundRow.{FoundRow}
+use Rattle.lookup.specs.Lookup.{foundSays}
 use Rattle.simjaldek.specs.Reply.{slotReply}
 use borrow.Author.Needs.{needs}
 use Rattle.simjaldek.proofs.replies.of_slot.Statement.{statement}

@@ -1,0 +1,139 @@
+// The trials of an index build: gates in number order, b ascending, c from b upward.
+use maps::inner::Job;
+use simd::AtomSlot;
+use simd::Gate;
+use trial::inner::Tally;
+ghost use mathlib.Core.Path.{_≡_};
+ghost use Prim.Native.Nat.{_<_};
+ghost use lib.ListN.{getD};
+ghost use Rattle.simd.specs.declared.Gate.the-variants.{And};
+ghost use Rattle.pairs.specs.Index.{allGates, firstC, trialsWith, trialsOfGate, trialsOf};
+ghost use Rattle.trial.specs.Steps.{Ready, Ran};
+
+// How many gates there are.
+const GATES: usize = 5;
+
+// The gate of a number.
+fn gate_at(k: usize) -> Gate
+    requires { ⌜ k < 5 ⌝ }
+    ensures { λ r. ⌜ r ≡ getD allGates k And ⌝ }
+{
+    if k == 0 {
+        return Gate::And;
+    }
+    if k == 1 {
+        return Gate::Or;
+    }
+    if k == 2 {
+        return Gate::Xor;
+    }
+    if k == 3 {
+        return Gate::Add;
+    }
+    Gate::Mul
+}
+
+// The first c that a gate tries with b: And and Or of an atom with itself are passed over.
+fn first_c(g: Gate, b: usize) -> usize
+    requires { ⌜ b < 479 ⌝ }
+    ensures { λ r. ⌜ r ≡ firstC g b ⌝ }
+{
+    match g {
+        Gate::And => b + 1,
+        Gate::Or => b + 1,
+        Gate::Xor => b,
+        Gate::Add => b,
+        Gate::Mul => b,
+    }
+}
+
+// The trials of a gate with atom b: c ascending.
+fn try_with(
+    work: &mut [u32],
+    pairs: &mut [u32],
+    listed: &mut [u64],
+    rows: &[u64],
+    job: Job,
+    n: usize,
+    g: Gate,
+    b: AtomSlot,
+) -> Tally
+    requires { ⌜ Ready job (now rows) (now work) (now pairs) (now listed) n × (b .0 < job .count) ⌝ }
+    ensures { λ r. ⌜ Ran job (now (rows .entry)) (now (pairs .entry)) (now (listed .entry)) n (now (work .exit)) (now (pairs .exit)) (now (listed .exit)) r (trialsWith (job .count) g (b .0)) ⌝ }
+{
+    let count = job.count;
+    let mut made = n;
+    let mut c = first_c(g, b.0 as usize);
+    while c < count {
+        let slot = AtomSlot(c as u32);
+        let t = trial::inner::try_pair(work, pairs, listed, rows, job, made, g, b, slot);
+        c += 1;
+        if t.cut {
+            return t;
+        }
+        made = t.pairs;
+    }
+    Tally {
+        pairs: made,
+        cut: false,
+    }
+}
+
+// The trials of a gate: b ascending.
+fn try_gate(
+    work: &mut [u32],
+    pairs: &mut [u32],
+    listed: &mut [u64],
+    rows: &[u64],
+    job: Job,
+    n: usize,
+    g: Gate,
+) -> Tally
+    requires { ⌜ Ready job (now rows) (now work) (now pairs) (now listed) n ⌝ }
+    ensures { λ r. ⌜ Ran job (now (rows .entry)) (now (pairs .entry)) (now (listed .entry)) n (now (work .exit)) (now (pairs .exit)) (now (listed .exit)) r (trialsOfGate (job .count) g) ⌝ }
+{
+    let count = job.count;
+    let mut made = n;
+    let mut b: usize = 0;
+    while b < count {
+        let slot = AtomSlot(b as u32);
+        let t = try_with(work, pairs, listed, rows, job, made, g, slot);
+        b += 1;
+        if t.cut {
+            return t;
+        }
+        made = t.pairs;
+    }
+    Tally {
+        pairs: made,
+        cut: false,
+    }
+}
+
+// All trials: gates in number order.
+pub fn try_gates(
+    work: &mut [u32],
+    pairs: &mut [u32],
+    listed: &mut [u64],
+    rows: &[u64],
+    job: Job,
+) -> Tally
+    requires { ⌜ Ready job (now rows) (now work) (now pairs) (now listed) 0 ⌝ }
+    ensures { λ r. ⌜ Ran job (now (rows .entry)) (now (pairs .entry)) (now (listed .entry)) 0 (now (work .exit)) (now (pairs .exit)) (now (listed .exit)) r (trialsOf allGates (job .count)) ⌝ }
+{
+    let mut made: usize = 0;
+    let mut k: usize = 0;
+    while k < GATES {
+        let g = gate_at(k);
+        let t = try_gate(work, pairs, listed, rows, job, made, g);
+        k += 1;
+        if t.cut {
+            return t;
+        }
+        made = t.pairs;
+    }
+    Tally {
+        pairs: made,
+        cut: false,
+    }
+}
