@@ -1,5 +1,6 @@
 // Formulas in postfix: their tokens, their test, value and cost. From expr.rs, evaluator.rs and expr_cost.rs.
 pub mod inner;
+mod reader;
 
 use simd::Gate;
 ghost use mathlib.Core.Path.{_≡_};
@@ -44,17 +45,11 @@ pub enum Value {
     Refused(u32),
 }
 
-// The reader of formulas: the token at a place, `Bad` past the end of either array.
+// The token at a place, `Bad` past the end of either array: what a reader that stands there reads next.
 pub fn token_at(ops: &[u8], operands: &[u64], at: usize) -> Token
     ensures { λ r. ⌜ r ≡ tokenAt (now (ops .entry)) (now (operands .entry)) at ⌝ }
 {
-    if ops.len() <= at {
-        return Token::Bad;
-    }
-    if operands.len() <= at {
-        return Token::Bad;
-    }
-    token_of(ops[at], operands[at])
+    reader::next(reader::new(ops, operands, at))
 }
 
 fn token_of(opcode: u8, operand: u64) -> Token
