@@ -65,7 +65,7 @@ pub fn collect(
         let at = s.at;
         list[k] = slots[at];
         k += 1;
-        s = filter::inner::next_place(listed, slots, n, listed, 0, class, s);
+        s = filter::inner::next_from(listed, slots, n, listed, 0, class, s, at + 1);
     }
     k
 }

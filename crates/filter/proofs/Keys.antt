@@ -76,10 +76,10 @@ module _ (c : Residue) (small : Small c) where
       beyond = λ z. absurd (let p = pow-pos (c .w - c .bits) in omega arith);
     }
 
-    -- the next place
-    pub sweeping-next : (s : Sweep) → s .at < n → Sweeping c n rows order s → Sweeping c n rows order (record { at = s .at + 1; key = s .key; left = s .left })
-    sweeping-next s h w = record {
-      within = omega arith;
+    -- a later place
+    pub sweeping-from : (s : Sweep) (from : ℕ) → s .at < from → from ≤ n → Sweeping c n rows order s → Sweeping c n rows order (record { at = from; key = s .key; left = s .left })
+    sweeping-from s from h b w = record {
+      within = b;
       key-is = w .key-is;
       above = λ p k l b y. w .above p k (omega arith) b y;
       beyond = λ z k l b y. w .beyond z k (omega arith) b y;

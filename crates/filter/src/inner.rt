@@ -257,8 +257,8 @@ pub fn first_place(
     )
 }
 
-// The next place of the class after the one that the sweep has come to.
-pub fn next_place(
+// The next place of the class from `from` on, which is after the one that the sweep has come to.
+pub fn next_from(
     rows: &[u64],
     order: &[u32],
     n: usize,
@@ -266,9 +266,10 @@ pub fn next_place(
     m: usize,
     class: Residue,
     s: Sweep,
+    from: usize,
 ) -> Sweep
-    requires { ⌜ Ordered n (now rows) (now order) × Sampled n (now rows) (now order) (now samples) m × Small class × Sweeping class n (now rows) (now order) s × (s .at < n) ⌝ }
-    ensures { λ r. ⌜ Settled class n (now (rows .entry)) (now (order .entry)) (s .at + 1) r ⌝ }
+    requires { ⌜ Ordered n (now rows) (now order) × Sampled n (now rows) (now order) (now samples) m × Small class × Sweeping class n (now rows) (now order) s × (s .at < from) × (from ≤ n) ⌝ }
+    ensures { λ r. ⌜ Settled class n (now (rows .entry)) (now (order .entry)) from r ⌝ }
 {
     settle(
         rows,
@@ -278,7 +279,7 @@ pub fn next_place(
         m,
         class,
         Sweep {
-            at: s.at + 1,
+            at: from,
             key: s.key,
             left: s.left,
         },

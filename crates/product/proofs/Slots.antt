@@ -3,7 +3,7 @@ use mathlib.Core.Path.{_≡_, refl, sym, ap, ap₂, _∙_, subst}
 use mathlib.Core.Bool.{Bool, true, false}
 use mathlib.Core.List.{List, [], _∷_}
 use mathlib.Core.Option.{none}
-use Prim.Native.Nat.{ℕ, _+_, _*_, _%_, _^_, _<_}
+use Prim.Native.Nat.{ℕ, _+_, _*_, _%_, _^_, _≤_, _<_}
 use native.Mathlib.Nat.{mod-lt, mod-eq-of-lt}
 use native.Mathlib.Omega.{arith}
 use borrow.Author.Tests.{eq-eqb}
@@ -22,9 +22,9 @@ use Rattle.solve.specs.declared.inner.Solution.{Solution}
 use Rattle.solve.specs.declared.inner.Solution.the-variants.{Class, Nothing}
 use Rattle.filter.specs.declared.inner.Residue.{Residue}
 use Rattle.filter.specs.declared.inner.Sweep.{Sweep}
-use Rattle.filter.specs.Places.{Ordered}
+use Rattle.filter.specs.Places.{Ordered, Skips}
 use Rattle.filter.specs.Sweeps.{inClass, Small, Settled}
-use Rattle.filter.proofs.PlaceLaws.{skips-none, skips-more, skips-join, skips-narrow, first-skips}
+use Rattle.filter.proofs.PlaceLaws.{skips-join, skips-narrow, first-skips}
 use Rattle.product.specs.Trying.{slotsFor}
 use Rattle.product.specs.Steps.{fitsAt, Target, Narrows}
 use Rattle.product.proofs.Trials.{fits-lane}
@@ -117,9 +117,9 @@ module _ (n : ℕ) (listed slots : List ℕ) (o : Ordered n listed slots) (class
   sweep-start r s =
       sym (first-skips test n slots (o .order-fit) 0 (r .at) (s .from) (s .sweeping .within) (skips-narrow (inClass class listed) test slots 0 (r .at) narrow (s .skips)))
 
-  pub sweep-next : (at : ℕ) (r : Sweep) → test (getD slots at 0) ≡ false → Settled class n listed slots (at + 1) r
+  pub sweep-next : (at from : ℕ) (r : Sweep) → at ≤ from → Skips test slots at from → Settled class n listed slots from r
       → firstThat test (drop (r .at) (take n slots)) ≡ firstThat test (drop at (take n slots))
-  sweep-next at r e s =
+  sweep-next at from r l miss s =
       sym (first-skips test n slots (o .order-fit) at (r .at) (omega (arith, s .from)) (s .sweeping .within)
-      (skips-join test slots at (at + 1) (r .at) (skips-more test slots at at (skips-none test slots at) e)
-      (skips-narrow (inClass class listed) test slots (at + 1) (r .at) narrow (s .skips))))
+      (skips-join test slots at from (r .at) miss
+      (skips-narrow (inClass class listed) test slots from (r .at) narrow (s .skips))))

@@ -1,6 +1,6 @@
 -- What the contracts of the private functions of src/inner.rt cite; no caller needs it. Assumes nothing.
 use mathlib.Core.Path.{_≡_}
-use mathlib.Core.Bool.{Bool, true}
+use mathlib.Core.Bool.{Bool, true, false}
 use mathlib.Core.List.{List}
 use mathlib.Core.Option.{Option, none, some}
 use Prim.Native.Nat.{ℕ, _^_, _≤_, _<_}
@@ -8,11 +8,13 @@ use lib.ListN.{length, getD}
 use Rattle.arith.specs.Parts.{partAt}
 use Rattle.order.specs.Order.{firstWord}
 use Rattle.filter.specs.declared.inner.Residue.{Residue}
+use Rattle.filter.specs.Places.{Skips}
 use Rattle.filter.specs.Sweeps.{inClass}
 use Rattle.product.specs.declared.inner.AtomFit.{AtomFit}
 use Rattle.product.specs.declared.inner.AtomFit.the-variants as A
 use Rattle.product.specs.declared.inner.PairFit.{PairFit}
 use Rattle.product.specs.declared.inner.PairFit.the-variants as P
+use Rattle.product.specs.declared.inner.RunStop.{RunStop}
 use Rattle.product.specs.Trying.{fits}
 
 -- whether row a of xs times row b of ys is the target
@@ -33,6 +35,14 @@ pub record FirstWords (rows : List ℕ) (count : ℕ) (firsts : List ℕ) : Type
 -- what fits atom a is of the class
 pub record Narrows (w : ℕ) (target atoms : List ℕ) (a : ℕ) (listed : List ℕ) (class : Residue) : Type 0 where
   pub is : (s : ℕ) → fitsAt w target atoms a listed s ≡ true → inClass class listed s ≡ true
+
+-- up to where a walk from place `at` on stops nothing passes the test; there the place passes, or the walk is a place further on at least
+pub record Stopped (test : ℕ → Bool) (n : ℕ) (order : List ℕ) (at : ℕ) (r : RunStop) : Type 0 where
+  pub from : at ≤ r .at
+  pub to : r .at ≤ n
+  pub skips : Skips test order at (r .at)
+  pub hit : r .fits ≡ true → (r .at < n) × (test (getD order (r .at) 0) ≡ true)
+  pub past : r .fits ≡ false → at < r .at
 
 -- what each case of an answer says
 abbrev pub atomSays : AtomFit → Option ℕ

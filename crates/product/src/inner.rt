@@ -14,7 +14,7 @@ ghost use Rattle.filter.specs.Places.{Ordered, Sampled};
 ghost use Rattle.filter.specs.Sweeps.{Small};
 ghost use Rattle.product.specs.Trying.{fitting, slotsFor, withAtoms, withPairs, tryEverything};
 ghost use Rattle.product.specs.Stages.{Lent, foundSays};
-ghost use Rattle.product.specs.Steps.{fitsAt, Target, FirstWords, Narrows, atomSays, pairSays};
+ghost use Rattle.product.specs.Steps.{fitsAt, Target, FirstWords, Narrows, Stopped, atomSays, pairSays};
 
 // The first product that fits.
 pub enum Found {
@@ -33,6 +33,12 @@ enum AtomFit {
 enum PairFit {
     At(PairSlot),
     Nothing,
+}
+
+// Where a walk over a run stops: at the first place that fits, or after the run.
+struct RunStop {
+    at: usize,
+    fits: bool,
 }
 
 // One sample of each sixteen pairs.
@@ -97,6 +103,40 @@ fn first_atom(
     AtomFit::Nothing
 }
 
+// Walks the run of places from `at` on that share one first word, up to the first whose pair fits atom a. The second words sort out most.
+fn walk_run(
+    atoms: &[u64],
+    a: usize,
+    listed: &[u64],
+    slots: &[u32],
+    n: usize,
+    at: usize,
+    target: &[u64],
+    w: u32,
+) -> RunStop
+    requires { ⌜ Ordered n (now listed) (now slots) × (at < n) × (16 * a + 16 ≤ length (now atoms)) × Target w (now target) ⌝ }
+    ensures { λ r. ⌜ Stopped (fitsAt w (now (target .entry)) (now (atoms .entry)) a (now (listed .entry))) n (now (slots .entry)) at r ⌝ }
+{
+    let first = slots[at] as usize;
+    let word = listed[simd::ROW_WORDS * first];
+    let p = atoms[simd::ROW_WORDS * a + 1];
+    let t = target[1];
+    let mut k = at;
+    while k < n {
+        let slot = slots[k] as usize;
+        if listed[simd::ROW_WORDS * slot] != word {
+            return RunStop { at: k, fits: false };
+        }
+        if arith::mod_mul(p, listed[simd::ROW_WORDS * slot + 1], w) == t {
+            if fits(atoms, a, listed, slot, target, w) {
+                return RunStop { at: k, fits: true };
+            }
+        }
+        k += 1;
+    }
+    RunStop { at: k, fits: false }
+}
+
 // The first listed pair, by the order list, that fits atom a: none does but those of the class.
 fn first_of_class(
     atoms: &[u64],
@@ -115,12 +155,12 @@ fn first_of_class(
 {
     let mut place = filter::inner::first_place(listed, slots, n, samples, m, class);
     while place.at < n {
-        let at = place.at;
-        let slot = slots[at];
-        if fits(atoms, a, listed, slot as usize, target, w) {
-            return PairFit::At(PairSlot(slot));
+        let stop = walk_run(atoms, a, listed, slots, n, place.at, target, w);
+        let at = stop.at;
+        if stop.fits {
+            return PairFit::At(PairSlot(slots[at]));
         }
-        place = filter::inner::next_place(listed, slots, n, samples, m, class, place);
+        place = filter::inner::next_from(listed, slots, n, samples, m, class, place, at);
     }
     PairFit::Nothing
 }

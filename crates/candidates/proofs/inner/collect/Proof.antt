@@ -50,16 +50,19 @@ add-k c =
     let s = c .before .before .before .before .before .before .before .before in
     omega (arith, test .if1 .taken, l .inv .few, s .pre .0 .most)
 
-next-place-requires : tie.Need-next-place-requires Inv-loop μ-loop
-next-place-requires c κs =
+add-next-from : tie.Need-add-next-from Inv-loop μ-loop
+add-next-from c = search needs
+
+next-from-requires : tie.Need-next-from-requires Inv-loop μ-loop
+next-from-requires c κs =
     let test = c .before in
     let l = test .before .before .loop in
     let s = c .before .before .before .before .before .before .before .before in
     let a = s .args in
-    (s .pre .0, no-samples (a .n) (a .listed .now) (a .slots .now) (a .listed .now), s .pre .1, l .inv .sweeping, test .if1 .taken)
+    (s .pre .0, no-samples (a .n) (a .listed .now) (a .slots .now) (a .listed .now), s .pre .1, l .inv .sweeping, omega arith, omega (arith, test .if1 .taken))
 
 loop-less : tie.Need-loop-less Inv-loop μ-loop
-loop-less c = omega (arith, c .before .before .if1 .taken, c .next-place .ensures .from)
+loop-less c = omega (arith, c .before .before .if1 .taken, c .next-from .ensures .from)
 
 loop-again : tie.Need-loop-again Inv-loop μ-loop
 loop-again c =
@@ -67,7 +70,7 @@ loop-again c =
     let l = test .before .before .loop in
     let s = c .before .before .before .before .before .before .before .before .before in
     let a = s .args in
-    filling-more (a .class) (a .n) (a .listed .now) (a .slots .now) (a .list .now) (s .pre .0 .order-fit) (s .pre .2) (l .list) (l .s) (l .k) (l .inv) (c .next-place .result) (test .if1 .taken) (c .next-place .ensures)
+    filling-more (a .class) (a .n) (a .listed .now) (a .slots .now) (a .list .now) (s .pre .0 .order-fit) (s .pre .2) (l .list) (l .s) (l .k) (l .inv) (c .next-from .result) (test .if1 .taken) (c .next-from .ensures)
 
 same-length : tie.Need-same-length Inv-loop μ-loop
 same-length c = c .before .before .loop .inv .size
@@ -92,7 +95,8 @@ collect-spec =
     mul-list-2
     slice-write-list
     add-k
-    next-place-requires
+    add-next-from
+    next-from-requires
     loop-less
     loop-again
     same-length

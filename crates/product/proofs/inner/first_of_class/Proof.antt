@@ -5,8 +5,7 @@ use Rattle.arith.specs.Lists.{firstThat}
 use Rattle.product.specs.Steps.{fitsAt}
 use lib.ListN.{take, drop}
 use Rattle.filter.specs.Sweeps.{Sweeping}
-use Rattle.filter.proofs.PlaceLaws.{first-at, first-end}
-use Rattle.filter.proofs.Words.{slot-below}
+use Rattle.filter.proofs.PlaceLaws.{first-at, first-end, first-skips}
 use Rattle.product.proofs.Slots.{sweep-start, sweep-next}
 use borrow.Author.Needs.{needs}
 use native.Mathlib.Omega.{arith}
@@ -32,45 +31,54 @@ loop-holds c =
     let test = fitsAt (a .w) (a .target .now) (a .atoms .now) (a .a) (a .listed .now) in
     (f .ensures .sweeping, sweep-start (a .n) (a .listed .now) (a .slots .now) (s .pre .0) (a .class) test (s .pre .3 .is) (f .result) (f .ensures))
 
-mul-slot : tie.Need-mul-slot Inv-loop μ-loop
-mul-slot c = search needs
+walk-run-requires : tie.Need-walk-run-requires Inv-loop μ-loop
+walk-run-requires c κs =
+    let s = c .before .before .before .before .before .before .before .before .before in
+    (s .pre .0, c .if1 .taken, s .pre .4, s .pre .5)
 
-shared-slice-read-slot : tie.Need-shared-slice-read-slot Inv-loop μ-loop
-shared-slice-read-slot c = search needs
+mul-t15 : tie.Need-mul-t15 Inv-loop μ-loop
+mul-t15 c = search needs
 
-cast-fits : tie.Need-cast-fits Inv-loop μ-loop
-cast-fits c = omega (arith, c .shared-slice-known6 .given (c .before .before .before .loop .place .at))
-
-fits-requires : tie.Need-fits-requires Inv-loop μ-loop
-fits-requires c κs =
-    let s = c .before .before .before .before .before .before .before .before .before .before in
-    let a = s .args in
-    let l = c .before .before .before .loop in
-    (s .pre .4, omega (arith, slot-below (a .n) (a .listed .now) (a .slots .now) (s .pre .0) (l .place .at) (c .before .if1 .taken), s .pre .0 .rows-fit), s .pre .5)
+shared-slice-read-t17 : tie.Need-shared-slice-read-t17 Inv-loop μ-loop
+shared-slice-read-t17 c =
+    let s = c .before .before .before .before .before .before .before .before .before .before .before .before in
+    omega (arith, c .before .before .walk-run .ensures .hit (c .before .if2 .taken) .0, s .pre .0 .order-fit)
 
 returns : tie.Need-returns Inv-loop μ-loop
 returns c =
+    let r = c .before .before .walk-run in
+    let hit = r .ensures .hit (c .before .if2 .taken) in
     let l = c .before .before .before .before .before .loop in
     let s = c .before .before .before .before .before .before .before .before .before .before .before .before in
     let a = s .args in
     let test = fitsAt (a .w) (a .target .now) (a .atoms .now) (a .a) (a .listed .now) in
-    sym (first-at test (a .n) (a .slots .now) (s .pre .0 .order-fit) (l .place .at) (c .before .before .before .if1 .taken) (sym (c .before .fits2 .ensures) ∙ c .if2 .taken)) ∙ l .inv .1
+    sym
+    (first-skips test (a .n) (a .slots .now) (s .pre .0 .order-fit) (l .place .at) (r .result .at) (r .ensures .from) (r .ensures .to) (r .ensures .skips)
+    ∙ first-at test (a .n) (a .slots .now) (s .pre .0 .order-fit) (r .result .at) (hit .0) (hit .1))
+    ∙ l .inv .1
 
-next-place-requires : tie.Need-next-place-requires Inv-loop μ-loop
-next-place-requires c κs = search needs
+next-from-requires : tie.Need-next-from-requires Inv-loop μ-loop
+next-from-requires c κs =
+    let r = c .before .walk-run in
+    let l = c .before .before .before .before .loop in
+    let s = c .before .before .before .before .before .before .before .before .before .before .before in
+    (s .pre .0, s .pre .1, s .pre .2, l .inv .0, r .ensures .past (c .if2 .left), r .ensures .to)
 
 loop-less : tie.Need-loop-less Inv-loop μ-loop
-loop-less c = search needs
+loop-less c =
+    let r = c .before .before .walk-run in
+    omega (arith, c .before .before .before .if1 .taken, r .ensures .past (c .before .if2 .left), c .next-from .ensures .from)
 
 loop-again : tie.Need-loop-again Inv-loop μ-loop
 loop-again c =
-    let f = c .next-place in
-    let l = c .before .before .before .before .before .before .loop in
-    let s = c .before .before .before .before .before .before .before .before .before .before .before .before .before in
+    let f = c .next-from in
+    let r = c .before .before .walk-run in
+    let l = c .before .before .before .before .before .loop in
+    let s = c .before .before .before .before .before .before .before .before .before .before .before .before in
     let a = s .args in
     let test = fitsAt (a .w) (a .target .now) (a .atoms .now) (a .a) (a .listed .now) in (
       f .ensures .sweeping,
-      sweep-next (a .n) (a .listed .now) (a .slots .now) (s .pre .0) (a .class) test (s .pre .3 .is) (l .place .at) (f .result) (sym (c .before .before .fits2 .ensures) ∙ c .before .if2 .left) (f .ensures) ∙ l .inv .1,
+      sweep-next (a .n) (a .listed .now) (a .slots .now) (s .pre .0) (a .class) test (s .pre .3 .is) (l .place .at) (r .result .at) (f .result) (r .ensures .from) (r .ensures .skips) (f .ensures) ∙ l .inv .1,
     )
 
 returns-2 : tie.Need-returns-2 Inv-loop μ-loop
@@ -89,12 +97,11 @@ first-of-class-spec =
     μ-loop
     first-place-requires
     loop-holds
-    mul-slot
-    shared-slice-read-slot
-    cast-fits
-    fits-requires
+    walk-run-requires
+    mul-t15
+    shared-slice-read-t17
     returns
-    next-place-requires
+    next-from-requires
     loop-less
     loop-again
     returns-2)
