@@ -24,6 +24,7 @@ pub enum Call {
     Bank,
     Index,
     SearchNothing,
+    SearchNothingZero,
     SearchAtomsEarly,
     SearchAtomsLate,
     SearchPairEarly,
@@ -35,10 +36,11 @@ pub enum Call {
 
 impl Call {
     /// All calls, in the tables' order.
-    pub const ALL: [Call; 10] = [
+    pub const ALL: [Call; 11] = [
         Call::Bank,
         Call::Index,
         Call::SearchNothing,
+        Call::SearchNothingZero,
         Call::SearchAtomsEarly,
         Call::SearchAtomsLate,
         Call::SearchPairEarly,
@@ -54,6 +56,7 @@ impl Call {
             Call::Bank => "Bank build",
             Call::Index => "Index build, order list included",
             Call::SearchNothing => "Product search, nothing",
+            Call::SearchNothingZero => "Product search, nothing, first word 0",
             Call::SearchAtomsEarly => "Product search, two atoms, early",
             Call::SearchAtomsLate => "Product search, two atoms, late",
             Call::SearchPairEarly => "Product search, atom and pair, early",

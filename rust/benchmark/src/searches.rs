@@ -38,7 +38,7 @@ fn check_target(setting: &Setting, call: Call, target: &Row) -> Answer {
     let answer = rust_search(setting, target);
     assert_eq!(our_search(setting, target), answer);
     let kind = match answer {
-        Answer::Nothing => &[Call::SearchNothing][..],
+        Answer::Nothing => &[Call::SearchNothing, Call::SearchNothingZero][..],
         Answer::TwoAtoms(..) => &[Call::SearchAtomsEarly, Call::SearchAtomsLate],
         Answer::AtomAndPair(..) => &[Call::SearchPairEarly, Call::SearchPairLate],
     };
@@ -100,14 +100,23 @@ fn is_order_list(rows: &[u64], order: &[u32]) -> bool {
 }
 
 /// A target for each kind of answer.
-fn targets(setting: &Setting) -> [(Call, Row); 5] {
+fn targets(setting: &Setting) -> [(Call, Row); 6] {
     [
         (Call::SearchNothing, setting.target),
+        (Call::SearchNothingZero, first_word_zero(setting)),
         (Call::SearchAtomsEarly, atoms_early(setting)),
         (Call::SearchAtomsLate, atoms_late(setting)),
         (Call::SearchPairEarly, pair_early(setting)),
         (Call::SearchPairLate, pair_late(setting)),
     ]
+}
+
+/// The target with its first word 0: an atom whose first word is 0 has no filter and is tried with every pair, by slot; one whose
+/// first word is even has many candidates.
+fn first_word_zero(setting: &Setting) -> Row {
+    let mut target = setting.target;
+    target[0] = 0;
+    target
 }
 
 /// The row of the middle atom: atom 1, the constant 1, times it.
