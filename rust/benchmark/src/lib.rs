@@ -4,6 +4,7 @@
 //! Every module makes the two sides of its calls from one [`Setting`], and checks that they give the same answer before it times them.
 
 mod builds;
+mod clock;
 mod formulas;
 pub mod measure;
 mod searches;

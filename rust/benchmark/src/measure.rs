@@ -1,7 +1,9 @@
 //! Batches of two sides in turn, and their medians.
 
 use std::hint::black_box;
-use std::time::{Duration, Instant};
+use std::time::Duration;
+
+use crate::clock::thread_time;
 
 /// How much is timed.
 #[derive(Clone, Debug)]
@@ -16,8 +18,8 @@ impl Plan {
     /// The plan of the table.
     pub fn full() -> Self {
         Plan {
-            batches: 15,
-            batch_time: Duration::from_millis(2),
+            batches: 31,
+            batch_time: Duration::from_millis(1),
         }
     }
 
@@ -30,7 +32,7 @@ impl Plan {
     }
 }
 
-/// Seconds per call of each side: the medians of its batches.
+/// Seconds of processor time per call of each side: the medians of its batches.
 #[derive(Clone, Copy, Debug)]
 pub struct Times {
     pub ours: f64,
@@ -59,11 +61,11 @@ pub type Side<'a> = &'a mut dyn FnMut(u32) -> Duration;
 /// Times the calls of a batch together.
 pub fn together<T>(mut call: impl FnMut() -> T) -> impl FnMut(u32) -> Duration {
     move |calls| {
-        let start = Instant::now();
+        let start = thread_time();
         for _ in 0..calls {
             black_box(call());
         }
-        start.elapsed()
+        thread_time() - start
     }
 }
 
@@ -72,9 +74,9 @@ pub fn apart<T>(mut call: impl FnMut() -> T) -> impl FnMut(u32) -> Duration {
     move |calls| {
         let mut sum = Duration::ZERO;
         for _ in 0..calls {
-            let start = Instant::now();
+            let start = thread_time();
             let made = black_box(call());
-            sum += start.elapsed();
+            sum += thread_time() - start;
             drop(made);
         }
         sum
