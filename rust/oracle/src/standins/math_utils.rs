@@ -1,7 +1,8 @@
 //! `crate::ir::math_utils`: the inverse that the product filter uses, by the specification's definition.
 
 /// The number below 2^k with product 1 with `m` modulo 2^k, for odd `m` and k from 1 to 64. With the feature `newton`, which only the
-/// benchmark asks for, by Newton's steps: 64 turns for each atom would make the originals slower than they are.
+/// benchmark asks for (and what is built in one command with it), by Newton's steps: 64 turns for each atom would make the originals
+/// slower than they are.
 pub fn mod_inverse_odd(m: u64, k: u32) -> u64 {
     assert!(m % 2 == 1 && (1..=64).contains(&k));
     if cfg!(feature = "newton") {
