@@ -16,13 +16,31 @@ pub struct AtomView {
     pub row: Row,
 }
 
-/// `populate` over sixteen points, then the seeds that `try_template_decomposition` adds for the target row.
+/// The originals' pool and its map as they are, for callers that time the originals.
+pub struct Pool {
+    pub(super) atoms: Vec<Atom>,
+    pub(super) vmap: ValMap,
+}
+
+impl Pool {
+    /// `populate` over sixteen points, then the seeds that `try_template_decomposition` adds for the target row.
+    pub fn build(num_vars: u32, width: u32, points: &[Vec<u64>], target: Row) -> Self {
+        let mut atoms: Vec<Atom> = Vec::new();
+        let mut vmap = ValMap::default();
+        populate(&mut atoms, &mut vmap, num_vars, points, width);
+        seed(&mut atoms, &mut vmap, points, width, target);
+        Self { atoms, vmap }
+    }
+
+    /// The atoms, in slot order.
+    pub fn views(&self) -> Vec<AtomView> {
+        self.atoms.iter().map(view).collect()
+    }
+}
+
+/// The atoms of `Pool::build`.
 pub fn bank(num_vars: u32, width: u32, points: &[Vec<u64>], target: Row) -> Vec<AtomView> {
-    let mut pool: Vec<Atom> = Vec::new();
-    let mut vmap = ValMap::default();
-    populate(&mut pool, &mut vmap, num_vars, points, width);
-    seed(&mut pool, &mut vmap, points, width, target);
-    pool.iter().map(view).collect()
+    Pool::build(num_vars, width, points, target).views()
 }
 
 /// The seeding of `try_template_decomposition`, line by line.

@@ -44,7 +44,7 @@ pub(super) fn cost_numbers(cost: ExprCost) -> Cost {
 }
 
 /// The tree of a well-formed formula.
-pub(super) fn expr_of(formula: &Formula) -> Arc<Expr> {
+pub fn expr_of(formula: &Formula) -> Arc<Expr> {
     let mut stack = Vec::new();
     for (op, operand) in formula.tokens() {
         let expr = match op {

@@ -12,10 +12,13 @@ mod search;
 
 use super::{ProbeVals, ALL_GATES, N_PROBES};
 
-pub use bank::{bank, AtomView};
-pub use formulas::{compute_cost, eval, Cost, Formula};
-pub use index::{index, IndexView};
-pub use search::{candidates, layer1, layer2, product_loop, product_loops, two_atoms};
+pub use bank::{bank, AtomView, Pool};
+pub use formulas::{compute_cost, eval, expr_of, Cost, Formula};
+pub use index::{index, IndexView, Inner};
+pub use search::{
+    candidates, first_two_atoms, layer1, layer2, product_loop, product_loop_over, product_loops,
+    two_atoms,
+};
 
 /// A row: the values at the sixteen points.
 pub type Row = [u64; N_PROBES];

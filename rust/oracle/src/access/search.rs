@@ -1,14 +1,12 @@
 //! Candidates, and the parts of layers 1 and 2 that look for products.
 
-use std::collections::HashMap;
-
 use super::super::{
     collect_mul_probe0_candidates, gate_expr, gate_matches, mul_matches, probe0_matches,
-    try_update, ProbeVals, TemplateResult,
+    try_update, Atom, InnerCompositions, ProbeVals, TemplateResult,
 };
-use super::bank::{map_of, pool_of, AtomView};
+use super::bank::{map_of, pool_of, pool_of_rows, AtomView, Pool};
 use super::formulas::formula_of;
-use super::index::{buckets_of, inner_of, IndexView};
+use super::index::{buckets_of, inner_of, inner_of_rows, IndexView, Inner};
 use super::{Formula, Row};
 use crate::core::evaluator::Evaluator;
 use crate::simd::Gate;
@@ -37,30 +35,38 @@ pub fn product_loops(
     pair_rows: &[Row],
     width: u32,
 ) -> Vec<Option<(usize, usize)>> {
-    let pool: Vec<ProbeVals> = atom_rows.iter().copied().map(ProbeVals).collect();
-    let inner: Vec<ProbeVals> = pair_rows.iter().copied().map(ProbeVals).collect();
-    let first_words: Vec<u64> = pair_rows.iter().map(|row| row[0]).collect();
-    let buckets = buckets_of(&first_words);
+    let pool = pool_of_rows(atom_rows);
+    let inner = inner_of_rows(pair_rows);
     targets
         .iter()
-        .map(|&target| first_hit(&ProbeVals(target), &pool, &inner, &buckets, width))
+        .map(|&target| first_hit(&ProbeVals(target), &pool, &inner, width))
         .collect()
+}
+
+/// `product_loop` over a pool and its table.
+pub fn product_loop_over(
+    target: Row,
+    pool: &Pool,
+    inner: &Inner,
+    width: u32,
+) -> Option<(usize, usize)> {
+    first_hit(&ProbeVals(target), &pool.atoms, &inner.0, width)
 }
 
 /// The loop, line by line as in `layer2`; a hit is returned where `try_update` would take it.
 fn first_hit(
     target: &ProbeVals,
-    pool: &[ProbeVals],
-    inner: &[ProbeVals],
-    mul_probe0_buckets: &HashMap<u64, Vec<usize>>,
+    pool: &[Atom],
+    inner_cache: &InnerCompositions,
     bw: u32,
 ) -> Option<(usize, usize)> {
+    let inner = &inner_cache.comps;
     let mask = super::bitmask(bw);
     let mut mul_candidates: Vec<usize> = Vec::new();
     for (atom, ai) in pool.iter().enumerate() {
         let used_filter = collect_mul_probe0_candidates(
-            mul_probe0_buckets,
-            ai.0[0],
+            &inner_cache.mul_probe0_buckets,
+            ai.vals.0[0],
             target.0[0],
             bw,
             &mut mul_candidates,
@@ -68,7 +74,7 @@ fn first_hit(
         if used_filter {
             for &ii_idx in &mul_candidates {
                 let ii = &inner[ii_idx];
-                if !mul_matches(ai, ii, target, mask, 1) {
+                if !mul_matches(&ai.vals, &ii.vals, target, mask, 1) {
                     continue;
                 }
                 return Some((atom, ii_idx));
@@ -76,10 +82,32 @@ fn first_hit(
             continue;
         }
         for (pair, ii) in inner.iter().enumerate() {
-            if !mul_matches(ai, ii, target, mask, 0) {
+            if !mul_matches(&ai.vals, &ii.vals, target, mask, 0) {
                 continue;
             }
             return Some((atom, pair));
+        }
+    }
+    None
+}
+
+/// The first two atoms, both ascending, whose product is the target: the Mul turn of `layer1`, which ends at its first hit here,
+/// as the specification's search does.
+pub fn first_two_atoms(target: Row, pool: &Pool, width: u32) -> Option<(usize, usize)> {
+    let target = &ProbeVals(target);
+    let mask = super::bitmask(width);
+    let pool = &pool.atoms;
+    let g = Gate::Mul;
+    let pn = pool.len();
+    for ai in 0..pn {
+        for bi in 0..pn {
+            if !probe0_matches(pool[ai].vals.0[0], pool[bi].vals.0[0], target.0[0], g, mask) {
+                continue;
+            }
+            if !gate_matches(&pool[ai].vals, &pool[bi].vals, target, g, mask) {
+                continue;
+            }
+            return Some((ai, bi));
         }
     }
     None

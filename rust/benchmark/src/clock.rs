@@ -1,0 +1,44 @@
+//! The processor time of this thread, which other programs on the machine don't add to.
+
+use std::time::Duration;
+
+/// `CLOCK_THREAD_CPUTIME_ID` of Linux.
+const THREAD_TIME: i32 = 3;
+
+/// `struct timespec` of x86-64 Linux.
+#[repr(C)]
+struct Timespec {
+    seconds: i64,
+    nanoseconds: i64,
+}
+
+extern "C" {
+    fn clock_gettime(clock: i32, time: *mut Timespec) -> i32;
+}
+
+/// The time that this thread has been running, in the program and in the kernel for it.
+pub fn thread_time() -> Duration {
+    let mut time = Timespec {
+        seconds: 0,
+        nanoseconds: 0,
+    };
+    // SAFETY: the C library, which std links, writes one timespec to the place that it is given.
+    let status = unsafe { clock_gettime(THREAD_TIME, &mut time) };
+    assert_eq!(status, 0, "Linux has a clock for each thread");
+    Duration::new(time.seconds as u64, time.nanoseconds as u32)
+}
+
+#[cfg(test)]
+mod tests {
+    use super::thread_time;
+
+    /// Work takes time, and sleeping takes none.
+    #[test]
+    fn time_goes_by_in_work_only() {
+        let start = thread_time();
+        std::thread::sleep(std::time::Duration::from_millis(50));
+        let slept = thread_time();
+        assert!((slept - start).as_millis() < 25);
+        while thread_time() == slept {}
+    }
+}

@@ -1,0 +1,116 @@
+//! The originals of binsnake/cobra (`oracle`) and Simjaldek through its binding (`simjaldek`) on the same inputs, timed in turn in one
+//! process. docs/BENCHMARKS.md has the last table and says what each row compares.
+//!
+//! Every module makes the two sides of its calls from one [`Setting`], and checks that they give the same answer before it times them.
+
+mod builds;
+mod clock;
+mod formulas;
+pub mod measure;
+mod searches;
+mod setting;
+pub mod table;
+
+use measure::{Plan, Times};
+
+pub use setting::Setting;
+
+/// The variable counts and the widths of the table.
+pub const VARIABLE_COUNTS: [u32; 5] = [1, 2, 3, 4, 6];
+pub const WIDTHS: [u32; 3] = [8, 32, 64];
+
+/// What is timed.
+#[derive(Clone, Copy, Debug, PartialEq, Eq)]
+pub enum Call {
+    Bank,
+    Index,
+    SearchNothing,
+    SearchNothingZero,
+    SearchAtomsEarly,
+    SearchAtomsLate,
+    SearchPairEarly,
+    SearchPairLate,
+    Evaluate,
+    EvaluateCompiled,
+    Cost,
+}
+
+impl Call {
+    /// All calls, in the tables' order.
+    pub const ALL: [Call; 11] = [
+        Call::Bank,
+        Call::Index,
+        Call::SearchNothing,
+        Call::SearchNothingZero,
+        Call::SearchAtomsEarly,
+        Call::SearchAtomsLate,
+        Call::SearchPairEarly,
+        Call::SearchPairLate,
+        Call::Evaluate,
+        Call::EvaluateCompiled,
+        Call::Cost,
+    ];
+
+    /// Its heading.
+    pub fn name(self) -> &'static str {
+        match self {
+            Call::Bank => "Bank build",
+            Call::Index => "Index build, order list included",
+            Call::SearchNothing => "Product search, nothing",
+            Call::SearchNothingZero => "Product search, nothing, first word 0",
+            Call::SearchAtomsEarly => "Product search, two atoms, early",
+            Call::SearchAtomsLate => "Product search, two atoms, late",
+            Call::SearchPairEarly => "Product search, atom and pair, early",
+            Call::SearchPairLate => "Product search, atom and pair, late",
+            Call::Evaluate => "Evaluate",
+            Call::EvaluateCompiled => "Evaluate, the Rust's formula compiled before",
+            Call::Cost => "Cost",
+        }
+    }
+
+    /// The most that our time may be of the Rust's; none where the Rust does less than the reference.
+    pub fn bar(self) -> Option<f64> {
+        match self {
+            Call::Bank | Call::Index => Some(0.5),
+            Call::EvaluateCompiled => None,
+            _ => Some(1.0),
+        }
+    }
+}
+
+/// A line of the table.
+#[derive(Clone, Debug)]
+pub struct Line {
+    pub call: Call,
+    pub num_vars: u32,
+    pub width: u32,
+    /// What the call worked on.
+    pub note: String,
+    pub times: Times,
+}
+
+/// Times every call of a setting.
+pub fn time_setting(plan: &Plan, setting: &mut Setting) -> Vec<Line> {
+    let (num_vars, width) = (setting.num_vars, setting.width);
+    let mut lines = Vec::new();
+    let mut take = |call: Call, note: String, times: Times| {
+        lines.push(Line {
+            call,
+            num_vars,
+            width,
+            note,
+            times,
+        });
+    };
+    builds::time(plan, setting, &mut take);
+    searches::time(plan, setting, &mut take);
+    formulas::time(plan, num_vars, width, &mut take);
+    lines
+}
+
+/// Checks that both sides of every call give the same answers.
+pub fn check_setting(setting: &Setting) {
+    builds::check(setting);
+    searches::check(setting);
+    formulas::check(setting.num_vars, setting.width);
+}
