@@ -104,15 +104,6 @@ step-ok nv Neg zero h l = absurd (omega arith)
 step-ok nv Neg (suc d) h l = let e : suc d ≡ suc d - 1 + 1 = omega arith in ap (λ (n : ℕ). some (marks n)) e
 step-ok nv Bad d h l = absurd (true-not-false (sym h))
 
-pub arity-le : (t : Token) → arity t ≤ 2
-unfolding arity
-arity-le (Constant k) = omega arith
-arity-le (Variable i) = omega arith
-arity-le (Binary g) = omega arith
-arity-le Not = omega arith
-arity-le Neg = omega arith
-arity-le Bad = omega arith
-
 -- ---- the test from a place on, with d values on the stack
 unfoldable pub passes : ℕ → List Token → ℕ → Bool
 unfolding allKnown run only

@@ -6,33 +6,28 @@ use Prim.Native.Nat.{ℕ, zero, suc, _+_, _-_, _*_, _≤_, _<_}
 use native.Mathlib.Numerals.{add-one, add-two}
 use native.Mathlib.Nat.{add-zero, zero-add, suc-add}
 use native.Mathlib.Omega.{arith}
-use lib.ListN.{length, getD, set, take, drop, length-append, take-append-drop}
+use lib.ListN.{length, getD, take, drop, length-append, take-append-drop}
 use lib.Seq.{take-at, drop-at, getD-at}
-use Rattle.arith.proofs.Fill.{Filled, filled-more}
 use Rattle.simd.specs.declared.Gate.{Gate}
 use Rattle.expr.specs.declared.Token.{Token}
 use Rattle.expr.specs.declared.Token.the-variants.{Constant, Variable, Binary, Not, Neg, Bad}
 use Rattle.expr.specs.declared.Cost.{Cost}
 use Rattle.expr.specs.declared.CostInfo.{CostInfo}
 use Rattle.expr.specs.Formula.{tokenAt, tokens, orElse, leavesOne, isFormula}
-use Rattle.expr.specs.Cost.{leafInfo, infoUnary, infoGate, isNonlinear, costAlg, noCost, infoOf, Roomy}
+use Rattle.expr.specs.Cost.{leafInfo, infoUnary, infoGate, isNonlinear, costAlg, noCost, infoOf, costOf, Roomy}
 use Rattle.expr.specs.Tree.{Tree, written, fold}
 use Rattle.expr.specs.Tree.Tree.{constant, variable, inverted, negated, gated}
-use Rattle.expr.specs.Span.{arity, back, Starts, spanOf, Span}
+use Rattle.expr.specs.Span.{arity, back, spanOf, Span, Ends, Under, spanLeaf, spanUnary, spanGate, costBefore}
 use Rattle.expr.proofs.Tokens.{tokens-length, tokens-take}
-use Rattle.expr.proofs.Machine.{arity-le, passed}
+use Rattle.expr.proofs.Machine.{passed}
 use Rattle.expr.proofs.Trees.{whole-tree, Formed, formed, leaves-one-tree, written-pos}
 
 -- ---- going back
 module _ (ops operands : List ℕ) where
-  pub back-none : (i : ℕ) → back ops operands i 0 ≡ i
+  back-none : (i : ℕ) → back ops operands i 0 ≡ i
   unfolding back
   back-none zero = refl
   back-none (suc i) = refl
-
-  pub back-start : (n : ℕ) → back ops operands 0 n ≡ 0
-  unfolding back
-  back-start n = refl
 
   -- values taken one after the other
   back-add : (i m n : ℕ) → back ops operands i (m + n) ≡ back ops operands (back ops operands i m) n
@@ -44,57 +39,6 @@ module _ (ops operands : List ℕ) where
       let p : suc m + n ≡ suc (m + n) = suc-add m n in
       let q : m + n + k ≡ m + k + n = omega arith in
       ap (back ops operands (suc i)) p ∙ ap (back ops operands i) q ∙ back-add i (m + k) n
-
-  pub back-le : (i n : ℕ) → back ops operands i n ≤ i
-  unfolding back
-  back-le zero n = omega arith
-  back-le (suc i) zero = omega arith
-  back-le (suc i) (suc n) = omega (arith, back-le i (n + arity (tokenAt ops operands i)))
-
-  -- ---- one more start
-  module _ (starts : List ℕ) (i : ℕ) (s : Starts ops operands starts i) where
-    step-back : (n : ℕ) → arity (tokenAt ops operands i) ≡ n → back ops operands i n ≡ back ops operands (i + 1) 1
-    unfolding back
-    step-back n e =
-        let z : 0 + arity (tokenAt ops operands i) ≡ arity (tokenAt ops operands i) = omega arith in
-        ap (back ops operands i) (sym e ∙ sym z) ∙ ap (λ (k : ℕ). back ops operands k 1) (sym (add-one i))
-
-    right-is : getD starts i 0 ≡ back ops operands i 1
-    right-is = s .each i (omega arith)
-
-    pub right-le : getD starts i 0 ≤ i
-    right-le = subst (λ (k : ℕ). k ≤ i) (sym right-is) (back-le i 1)
-
-    pub start-leaf : arity (tokenAt ops operands i) ≡ 0 → i ≡ back ops operands (i + 1) 1
-    start-leaf e = sym (back-none i) ∙ step-back 0 e
-
-    pub start-unary : arity (tokenAt ops operands i) ≡ 1 → getD starts i 0 ≡ back ops operands (i + 1) 1
-    start-unary e = right-is ∙ step-back 1 e
-
-    pub start-binary : (arity (tokenAt ops operands i) ≡ 0 → ⊥) → (arity (tokenAt ops operands i) ≡ 1 → ⊥) → getD starts (getD starts i 0) 0 ≡ back ops operands (i + 1) 1
-    start-binary a b =
-        let e : arity (tokenAt ops operands i) ≡ 2 = omega (arith, arity-le (tokenAt ops operands i)) in
-        s .each (getD starts i 0) right-le ∙ ap (λ (k : ℕ). back ops operands k 1) right-is ∙ sym (back-add i 1 1) ∙ step-back 2 e
-
-  pub starts-none : (starts : List ℕ) → getD starts 0 0 ≡ 0 → Starts ops operands starts 0
-  unfolding back
-  starts-none starts e = record { each = λ k h. (let z : k ≡ 0 = omega arith in ap (λ (j : ℕ). getD starts j 0) z ∙ e ∙ ap (λ (j : ℕ). back ops operands j 1) (sym z)) }
-
-  pub starts-more : (starts : List ℕ) (i v : ℕ) → i + 1 < length starts → Starts ops operands starts i → v ≡ back ops operands (i + 1) 1 → Starts ops operands (set starts (i + 1) v) (i + 1)
-  starts-more starts i v h s e =
-      let all : Filled (λ (k : ℕ). back ops operands k 1) (set starts (i + 1) v) (i + 1 + 1) =
-      filled-more (λ (k : ℕ). back ops operands k 1) starts (i + 1) v h (λ k l. s .each k (omega arith)) e in
-      record { each = λ k l. all k (omega arith) }
-
-  pub starts-all : (starts : List ℕ) (i count : ℕ) → count ≤ i → Starts ops operands starts i → Starts ops operands starts count
-  starts-all starts i count h s = record { each = λ k l. s .each k (omega arith) }
-
--- what passes the test is one span
-pub whole-span : (nv count : ℕ) (ops operands : List ℕ) → isFormula nv (tokens count ops operands) ≡ true → Span ops operands 0 count
-unfolding spanOf
-whole-span nv count ops operands h =
-    let p = passed nv (tokens count ops operands) h in
-    record { order = omega arith; most = subst (λ (n : ℕ). n ≤ 64) (tokens-length ops operands count) (p .most); one = p .one }
 
 -- ---- the cost of a tree
 pub info-tree : (t : Tree) → infoOf (written t) ≡ fold costAlg t
@@ -283,26 +227,26 @@ module _ (ops operands : List ℕ) where
       ∙ back-tree b (from + length (written a)) (to - 1) (suc n) (right-of s)
       ∙ back-tree a from (from + length (written a)) n (left-of s)
 
-  -- ---- what `cost_span` finds
+  -- ---- what `cost_before` finds
   module _ (from to : ℕ) (s : Span ops operands from to) where
-    pub span-pos : from < to
+    span-pos : from < to
     span-pos = let e = ends (stands from to s) in omega (arith, written-pos (tree-of from to s .tree))
 
-    pub span-roomy : Roomy (infoOf (spanOf ops operands from to) .cost)
+    span-roomy : Roomy (infoOf (spanOf ops operands from to) .cost)
     span-roomy =
         let e = ends (stands from to s) in
         let m = s .most in
         subst (λ (l : List Token). Roomy (infoOf l .cost)) (sym (span-is (stands from to s))) (tree-roomy (tree-of from to s .tree) (omega arith))
 
   -- a gate, and its two operands, of which the right one begins at `mid`
-  pub record Gated (from mid to : ℕ) (g : Gate) : Type 0 where
-    pub left : Span ops operands from mid
-    pub right : Span ops operands mid (to - 1)
-    pub cost : infoGate g (infoOf (spanOf ops operands from mid)) (infoOf (spanOf ops operands mid (to - 1))) ≡ infoOf (spanOf ops operands from to)
+  record Gated (from mid to : ℕ) (g : Gate) : Type 0 where
+    left : Span ops operands from mid
+    right : Span ops operands mid (to - 1)
+    cost : infoGate g (infoOf (spanOf ops operands from mid)) (infoOf (spanOf ops operands mid (to - 1))) ≡ infoOf (spanOf ops operands from to)
 
-  pub record Unary (from to : ℕ) : Type 0 where
-    pub operand : Span ops operands from (to - 1)
-    pub cost : infoUnary (infoOf (spanOf ops operands from (to - 1))) ≡ infoOf (spanOf ops operands from to)
+  record Unary (from to : ℕ) : Type 0 where
+    operand : Span ops operands from (to - 1)
+    cost : infoUnary (infoOf (spanOf ops operands from (to - 1))) ≡ infoOf (spanOf ops operands from to)
 
   gate-parts : (from mid to : ℕ) (g : Gate) (t : Tree) → Stands from to t → to ≤ 64 → lastOf t ≡ Binary g → mid ≡ back ops operands (to - 1) 1 → Gated from mid to g
   unfolding lastOf fold costAlg
@@ -362,17 +306,134 @@ module _ (ops operands : List ℕ) where
     last-of : lastOf (tree-of from to s .tree) ≡ t
     last-of = sym (last-is (stands from to s)) ∙ here
 
-    pub span-gate : (g : Gate) → t ≡ Binary g → (mid : ℕ) → mid ≡ back ops operands (to - 1) 1 → Gated from mid to g
+    span-gate : (g : Gate) → t ≡ Binary g → (mid : ℕ) → mid ≡ back ops operands (to - 1) 1 → Gated from mid to g
     span-gate g e mid m = gate-parts from mid to g (tree-of from to s .tree) (stands from to s) (s .most) (last-of ∙ e) m
 
-    pub span-unary : arity t ≡ 1 → Unary from to
+    span-unary : arity t ≡ 1 → Unary from to
     span-unary e = unary-parts from to (tree-of from to s .tree) (stands from to s) (s .most) (ap arity last-of ∙ e)
 
-    pub span-constant : (k : ℕ) → t ≡ Constant k → leafInfo false ≡ infoOf (spanOf ops operands from to)
+    span-constant : (k : ℕ) → t ≡ Constant k → leafInfo false ≡ infoOf (spanOf ops operands from to)
     span-constant k e = constant-parts (tree-of from to s .tree) k (last-of ∙ e) ∙ sym (info-is (stands from to s))
 
-    pub span-variable : (k : ℕ) → t ≡ Variable k → leafInfo true ≡ infoOf (spanOf ops operands from to)
+    span-variable : (k : ℕ) → t ≡ Variable k → leafInfo true ≡ infoOf (spanOf ops operands from to)
     span-variable k e = variable-parts (tree-of from to s .tree) k (last-of ∙ e) ∙ sym (info-is (stands from to s))
 
-    pub span-bad : t ≡ Bad → ⊥
+    span-bad : t ≡ Bad → ⊥
     span-bad e = bad-parts (tree-of from to s .tree) (last-of ∙ e)
+
+  -- ---- the same of the formula that ends before a place
+  back-last : (to n : ℕ) (t : Token) → 0 < to → tokenAt ops operands (to - 1) ≡ t → arity t ≡ n → back ops operands to 1 ≡ back ops operands (to - 1) n
+  back-last to n t h e q = one-back to 0 n t h e (zero-add (arity t) ∙ q)
+
+  pub ends-pos : (to : ℕ) → Ends ops operands to → 0 < to
+  ends-pos to s = omega (arith, span-pos (back ops operands to 1) to s)
+
+  pub ends-roomy : (to : ℕ) → Ends ops operands to → Roomy (costBefore ops operands to .info .cost)
+  unfolding costBefore
+  ends-roomy to s = span-roomy (back ops operands to 1) to s
+
+  module _ (to : ℕ) (s : Ends ops operands to) (t : Token) (here : tokenAt ops operands (to - 1) ≡ t) where
+    leaf-before : (v : Bool) → arity t ≡ 0 → leafInfo v ≡ infoOf (spanOf ops operands (back ops operands to 1) to) → spanLeaf v (to - 1) ≡ costBefore ops operands to
+    unfolding costBefore
+    leaf-before v a e =
+        let p : to - 1 ≡ back ops operands to 1 = sym (back-last to 0 t (ends-pos to s) here a ∙ back-none ops operands (to - 1)) in
+        λ i. record { info = e i; from = p i }
+
+    pub constant-before : (k : ℕ) → t ≡ Constant k → spanLeaf false (to - 1) ≡ costBefore ops operands to
+    unfolding arity
+    constant-before k e = leaf-before false (ap arity e) (span-constant (back ops operands to 1) to s t here k e)
+
+    pub variable-before : (k : ℕ) → t ≡ Variable k → spanLeaf true (to - 1) ≡ costBefore ops operands to
+    unfolding arity
+    variable-before k e = leaf-before true (ap arity e) (span-variable (back ops operands to 1) to s t here k e)
+
+    pub bad-before : t ≡ Bad → ⊥
+    bad-before e = span-bad (back ops operands to 1) to s t here e
+
+  -- the last operand, which has fewer tokens than the whole
+  pub record Last (to : ℕ) : Type 0 where
+    pub ends : Ends ops operands (to - 1)
+    pub shorter : to - 1 - back ops operands (to - 1) 1 < to - back ops operands to 1
+
+  -- the left operand of a gate
+  pub record Left (to : ℕ) (g : Gate) : Type 0 where
+    pub ends : Ends ops operands (back ops operands (to - 1) 1)
+    pub shorter : back ops operands (to - 1) 1 - back ops operands (back ops operands (to - 1) 1) 1 < to - back ops operands to 1
+    pub cost : spanGate g (costBefore ops operands (back ops operands (to - 1) 1)) (costBefore ops operands (to - 1)) ≡ costBefore ops operands to
+
+  module _ (to : ℕ) (t : Token) (u : Under ops operands to t) where
+    pos : 0 < to
+    pos = ends-pos to (u .ends)
+
+    unary-begins : arity t ≡ 1 → back ops operands (to - 1) 1 ≡ back ops operands to 1
+    unary-begins e = sym (back-last to 1 t pos (u .last) e)
+
+    gate-begins : arity t ≡ 2 → back ops operands (back ops operands (to - 1) 1) 1 ≡ back ops operands to 1
+    gate-begins e = sym (back-last to 2 t pos (u .last) e ∙ back-add ops operands (to - 1) 1 1)
+
+    unary-of : arity t ≡ 1 → Unary (back ops operands to 1) to
+    unary-of e = span-unary (back ops operands to 1) to (u .ends) t (u .last) e
+
+    gate-of : (g : Gate) → t ≡ Binary g → Gated (back ops operands to 1) (back ops operands (to - 1) 1) to g
+    gate-of g e = span-gate (back ops operands to 1) to (u .ends) t (u .last) g e (back ops operands (to - 1) 1) refl
+
+    pub unary-before : arity t ≡ 1 → spanUnary (costBefore ops operands (to - 1)) ≡ costBefore ops operands to
+    unfolding costBefore
+    unary-before e =
+        let p = unary-begins e in
+        let q = ap (λ (n : ℕ). infoUnary (infoOf (spanOf ops operands n (to - 1)))) p ∙ unary-of e .cost in
+        λ i. record { info = q i; from = p i }
+
+    unary-last : arity t ≡ 1 → Last to
+    unary-last e =
+        let p = unary-begins e in
+        let l : Ends ops operands (to - 1) = subst (λ (n : ℕ). Span ops operands n (to - 1)) (sym p) (unary-of e .operand) in
+        record { ends = l; shorter = omega (arith, span-pos (back ops operands to 1) (to - 1) (unary-of e .operand)) }
+
+    gate-last : (g : Gate) → t ≡ Binary g → Last to
+    gate-last g e =
+        let o = gate-of g e in
+        let l = span-pos (back ops operands to 1) (back ops operands (to - 1) 1) (o .left) in
+        record { ends = o .right; shorter = omega (arith, span-pos (back ops operands (to - 1) 1) (to - 1) (o .right)) }
+
+    pub gate-left : (g : Gate) → t ≡ Binary g → Left to g
+    unfolding arity costBefore
+    gate-left g e =
+        let o = gate-of g e in
+        let p = gate-begins (ap arity e) in
+        let l : Ends ops operands (back ops operands (to - 1) 1) = subst (λ (n : ℕ). Span ops operands n (back ops operands (to - 1) 1)) (sym p) (o .left) in
+        let r = span-pos (back ops operands (to - 1) 1) (to - 1) (o .right) in
+        let q = ap (λ (n : ℕ). infoGate g (infoOf (spanOf ops operands n (back ops operands (to - 1) 1))) (infoOf (spanOf ops operands (back ops operands (to - 1) 1) (to - 1)))) p ∙ o .cost in
+        record {
+          ends = l;
+          shorter = omega (arith, span-pos (back ops operands to 1) (back ops operands (to - 1) 1) (o .left));
+          cost = λ i. record { info = q i; from = p i };
+        }
+
+  pub last-operand : (to : ℕ) (t : Token) → Under ops operands to t → Last to
+  unfolding arity
+  last-operand to (Constant k) u = let z = u .takes in absurd (omega arith)
+  last-operand to (Variable i) u = let z = u .takes in absurd (omega arith)
+  last-operand to (Binary g) u = gate-last to (Binary g) u g refl
+  last-operand to Not u = unary-last to Not u refl
+  last-operand to Neg u = unary-last to Neg u refl
+  last-operand to Bad u = let z = u .takes in absurd (omega arith)
+
+-- ---- what passes the test
+module _ (nv count : ℕ) (ops operands : List ℕ) (h : isFormula nv (tokens count ops operands) ≡ true) where
+  whole-span : Span ops operands 0 count
+  unfolding spanOf
+  whole-span =
+      let p = passed nv (tokens count ops operands) h in
+      record { order = omega arith; most = subst (λ (n : ℕ). n ≤ 64) (tokens-length ops operands count) (p .most); one = p .one }
+
+  -- it begins at 0
+  whole-begins : back ops operands count 1 ≡ 0
+  whole-begins = back-tree ops operands (tree-of ops operands 0 count whole-span .tree) 0 count 0 (stands ops operands 0 count whole-span) ∙ back-none ops operands 0
+
+  pub whole-ends : Ends ops operands count
+  whole-ends = subst (λ (n : ℕ). Span ops operands n count) (sym whole-begins) whole-span
+
+  pub whole-cost : costBefore ops operands count .info .cost ≡ costOf (tokens count ops operands)
+  unfolding costBefore spanOf
+  whole-cost = ap (λ (n : ℕ). costOf (spanOf ops operands n count)) whole-begins

@@ -1,12 +1,15 @@
--- A part of the tokens that is a formula by itself, and where the formula that ends at a place begins. Assumes nothing.
+-- A part of the tokens that is a formula by itself, where the formula that ends at a place begins, and its cost. Assumes nothing.
 use mathlib.Core.Path.{_≡_}
-use mathlib.Core.Bool.{true}
+use mathlib.Core.Bool.{Bool, true}
 use mathlib.Core.List.{List}
-use Prim.Native.Nat.{ℕ, zero, suc, _+_, _≤_}
-use lib.ListN.{length, getD, drop}
+use Prim.Native.Nat.{ℕ, zero, suc, _+_, _-_, _≤_}
+use lib.ListN.{length, drop}
+use Rattle.simd.specs.declared.Gate.{Gate}
 use Rattle.expr.specs.declared.Token.{Token}
 use Rattle.expr.specs.declared.Token.the-variants.{Constant, Variable, Binary, Not, Neg, Bad}
+use Rattle.expr.specs.declared.inner.SpanCost.{SpanCost}
 use Rattle.expr.specs.Formula.{tokenAt, tokens, leavesOne, isFormula}
+use Rattle.expr.specs.Cost.{leafInfo, infoUnary, infoGate, infoOf}
 
 -- how many values a token takes
 unfoldable pub arity : Token → ℕ
@@ -24,10 +27,6 @@ back ops operands zero need = zero
 back ops operands (suc i) zero = suc i
 back ops operands (suc i) (suc n) = back ops operands i (n + arity (tokenAt ops operands i))
 
--- for each place up to `count`, where the formula that ends before it begins
-pub record Starts (ops operands starts : List ℕ) (count : ℕ) : Type 0 where
-  pub each : (k : ℕ) → k ≤ count → getD starts k 0 ≡ back ops operands k 1
-
 -- the tokens from `from` up to `to`
 unfoldable pub spanOf : List ℕ → List ℕ → ℕ → ℕ → List Token
 unfolding tokens
@@ -38,6 +37,31 @@ pub record Span (ops operands : List ℕ) (from to : ℕ) : Type 0 where
   pub order : from ≤ to
   pub most : to ≤ 64
   pub one : leavesOne (spanOf ops operands from to) ≡ true
+
+-- a formula ends before `to`
+abbrev pub Ends : List ℕ → List ℕ → ℕ → Type 0
+Ends ops operands to = Span ops operands (back ops operands to 1) to
+
+-- and its last token t takes operands
+pub record Under (ops operands : List ℕ) (to : ℕ) (t : Token) : Type 0 where
+  pub ends : Ends ops operands to
+  pub last : tokenAt ops operands (to - 1) ≡ t
+  pub takes : 1 ≤ arity t
+
+-- a cost, with the place where its formula begins
+abbrev pub spanLeaf : Bool → ℕ → SpanCost
+spanLeaf varies from = record { info = leafInfo varies; from = from }
+
+abbrev pub spanUnary : SpanCost → SpanCost
+spanUnary a = record { info = infoUnary (a .info); from = a .from }
+
+abbrev pub spanGate : Gate → SpanCost → SpanCost → SpanCost
+spanGate g a b = record { info = infoGate g (a .info) (b .info); from = a .from }
+
+-- the cost of the formula that ends before `to`
+unfoldable pub costBefore : List ℕ → List ℕ → ℕ → SpanCost
+unfolding back spanOf infoOf
+costBefore ops operands to = record { info = infoOf (spanOf ops operands (back ops operands to 1) to); from = back ops operands to 1 }
 
 -- what the evaluator asks: a width that a call has tested, and a formula whose variables all have a word
 pub record Evaluable (w count : ℕ) (ops operands words : List ℕ) : Type 0 where

@@ -6,11 +6,10 @@ use crate::Token;
 use simd::Gate;
 ghost use mathlib.Core.Path.{_≡_};
 ghost use mathlib.Core.Bool.{_||_};
-ghost use Prim.Native.Nat.{_+_, _≤_, _<_, max};
-ghost use lib.ListN.{length};
+ghost use Prim.Native.Nat.{max};
 ghost use Rattle.expr.specs.Formula.{tokens, known, valueOf};
-ghost use Rattle.expr.specs.Cost.{leafInfo, underUnary, underGate, isNonlinear, infoUnary, infoGate, infoOf, Roomy};
-ghost use Rattle.expr.specs.Span.{arity, back, Starts, spanOf, Span, Evaluable};
+ghost use Rattle.expr.specs.Cost.{leafInfo, underUnary, underGate, isNonlinear, infoUnary, infoGate, Roomy};
+ghost use Rattle.expr.specs.Span.{arity, Ends, Under, spanLeaf, spanUnary, spanGate, costBefore, Evaluable};
 
 // Whether a token may stand in a formula over nv variables.
 pub fn is_known(t: Token, nv: u32) -> bool
@@ -75,53 +74,71 @@ pub fn eval_tokens(w: u32, count: usize, ops: &[u8], operands: &[u64], words: &[
     stack[0]
 }
 
-// For each place up to `count`, where the formula that ends before it begins. Found in one pass, so that the cost goes down without a search.
-pub fn span_starts(ops: &[u8], operands: &[u64], count: usize) -> [u8; 65]
-    requires { ⌜ count ≤ 64 ⌝ }
-    ensures { λ r. ⌜ Starts (now (ops .entry)) (now (operands .entry)) r count ⌝ }
-{
-    let mut starts = [0u8; MAX_TOKENS + 1];
-    let mut i: usize = 0;
-    while i < count {
-        let start = start_after(ops, operands, &starts, i);
-        i += 1;
-        starts[i] = start as u8;
-    }
-    starts
+// A cost, with the place where its formula begins.
+pub struct SpanCost {
+    pub info: CostInfo,
+    pub from: usize,
 }
 
-// The same for the place after token i, from the starts up to it: a leaf begins where it stands, Not and Neg where their operand begins,
-// a gate where its left operand does.
-fn start_after(ops: &[u8], operands: &[u64], starts: &[u8], i: usize) -> usize
-    requires { ⌜ (i < length (now starts)) × Starts (now ops) (now operands) (now starts) i ⌝ }
-    ensures { λ r. ⌜ r ≡ back (now (ops .entry)) (now (operands .entry)) (i + 1) 1 ⌝ }
-{
-    let right = starts[i] as usize;
-    let left = starts[right] as usize;
-    match takes(crate::token_at(ops, operands, i)) {
-        0 => i,
-        1 => right,
-        _ => left,
-    }
-}
-
-// The cost of the formula that stands from `from` up to `to`, found by going down into its operands, each shorter than the whole.
-pub fn cost_span(ops: &[u8], operands: &[u64], starts: &[u8], from: usize, to: usize) -> CostInfo
-    requires { ⌜ Span (now ops) (now operands) from to × ((to ≤ length (now starts)) × Starts (now ops) (now operands) (now starts) to) ⌝ }
-    ensures { λ r. ⌜ r ≡ infoOf (spanOf (now (ops .entry)) (now (operands .entry)) from to) ⌝ }
+// The cost of the formula that ends before `to`, found by going down into its operands from the right, each shorter than the whole.
+pub fn cost_before(ops: &[u8], operands: &[u64], to: usize) -> SpanCost
+    requires { ⌜ Ends (now ops) (now operands) to ⌝ }
+    ensures { λ r. ⌜ r ≡ costBefore (now (ops .entry)) (now (operands .entry)) to ⌝ }
 {
     let last = to - 1;
-    match crate::token_at(ops, operands, last) {
-        Token::Constant(_) => CostInfo::leaf(false),
-        Token::Variable(_) => CostInfo::leaf(true),
-        Token::Binary(g) => {
-            let mid = starts[last] as usize;
-            let a = cost_span(ops, operands, starts, from, mid);
-            let b = cost_span(ops, operands, starts, mid, last);
-            a.under_gate(b, g)
+    let t = crate::token_at(ops, operands, last);
+    match t {
+        Token::Constant(_) => SpanCost::leaf(false, last),
+        Token::Variable(_) => SpanCost::leaf(true, last),
+        Token::Bad => SpanCost::leaf(false, last),
+        _ => cost_under(ops, operands, to, t),
+    }
+}
+
+// The same where the last token t takes operands. Apart, since each call copies the slices that it passes on: a leaf passes none on.
+fn cost_under(ops: &[u8], operands: &[u64], to: usize, t: Token) -> SpanCost
+    requires { ⌜ Under (now ops) (now operands) to t ⌝ }
+    ensures { λ r. ⌜ r ≡ costBefore (now (ops .entry)) (now (operands .entry)) to ⌝ }
+{
+    let right = cost_before(ops, operands, to - 1);
+    match t {
+        Token::Binary(g) => cost_before(ops, operands, right.from).under_gate(right, g),
+        _ => right.under_unary(),
+    }
+}
+
+impl SpanCost {
+    fn leaf(varies: bool, from: usize) -> SpanCost
+        ensures { λ r. ⌜ r ≡ spanLeaf varies from ⌝ }
+    {
+        let info = CostInfo::leaf(varies);
+        SpanCost { info, from }
+    }
+
+    fn under_unary(self) -> SpanCost
+        requires { ⌜ Roomy (self .info .cost) ⌝ }
+        ensures { λ r. ⌜ r ≡ spanUnary self ⌝ }
+    {
+        let below = self.info;
+        let info = below.under_unary();
+        SpanCost {
+            info,
+            from: self.from,
         }
-        Token::Not | Token::Neg => cost_span(ops, operands, starts, from, last).under_unary(),
-        Token::Bad => CostInfo::leaf(false),
+    }
+
+    // With the right operand.
+    fn under_gate(self, other: SpanCost, g: Gate) -> SpanCost
+        requires { ⌜ Roomy (self .info .cost) × Roomy (other .info .cost) ⌝ }
+        ensures { λ r. ⌜ r ≡ spanGate g self other ⌝ }
+    {
+        let a = self.info;
+        let b = other.info;
+        let info = a.under_gate(b, g);
+        SpanCost {
+            info,
+            from: self.from,
+        }
     }
 }
 

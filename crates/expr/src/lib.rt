@@ -147,9 +147,8 @@ pub fn compute_cost(nv: u32, count: usize, ops: &[u8], operands: &[u64]) -> Cost
         return cost_refused(4);
     }
     if is_formula(nv, count, ops, operands) {
-        let starts = inner::span_starts(ops, operands, count);
-        let info = inner::cost_span(ops, operands, &starts, 0, count);
-        let cost = info.cost;
+        let whole = inner::cost_before(ops, operands, count);
+        let cost = whole.info.cost;
         CostAnswer { refusal: 0, cost }
     } else {
         cost_refused(6)

@@ -2,7 +2,6 @@
 // is left to `step`, over plain slices, which is covered; every other caller goes through `token_at`.
 use crate::Token;
 ghost use mathlib.Core.Path.{_≡_};
-ghost use Prim.Native.Nat.{_+_, _<_, _^_};
 ghost use Rattle.expr.specs.Formula.{tokenAt};
 
 // 01, From heap ..: "every formula is read from left to right through a small reader"; Expected forms by place: "a struct holding the opcode
@@ -25,18 +24,6 @@ pub fn next<'a, 'b>(r: Reader<'a, 'b>) -> Token
     ensures { λ t. ⌜ t ≡ tokenAt (now (r .entry .ops)) (now (r .entry .operands)) (r .entry .at) ⌝ }
 {
     step(r.ops, r.operands, r.at)
-}
-
-// The reader one place further.
-pub fn advance<'a, 'b>(r: Reader<'a, 'b>) -> Reader<'a, 'b>
-    requires { ⌜ r .at + 1 < 2 ^ 64 ⌝ }
-    ensures { λ q. ⌜ (q .ops ≡ r .entry .ops) × (q .operands ≡ r .entry .operands) × (q .at ≡ r .entry .at + 1) ⌝ }
-{
-    Reader {
-        ops: r.ops,
-        operands: r.operands,
-        at: r.at + 1,
-    }
 }
 
 // The work: the token at a place of the two arrays, `Bad` past the end of either.

@@ -1,14 +1,14 @@
--- `expr::compute_cost` meets its contract: each refusal is tested as the definition tests it, and what passes is one span. Assumes nothing.
+-- `expr::compute_cost` meets its contract: each refusal is tested as the definition tests it, and what passes ends before its count and begins at 0. Assumes nothing.
 use mathlib.Core.Path.{sym, ap, _∙_}
 use mathlib.Core.Bool.{not}
 use borrow.Author.Needs.{needs}
 use Rattle.arith.specs.Refusal.{refuse}
-use Rattle.expr.specs.declared.CostInfo.{CostInfo}
+use Rattle.expr.specs.declared.Cost.{Cost}
+use Rattle.expr.specs.declared.inner.SpanCost.{SpanCost}
 use Rattle.expr.specs.Formula.{tokens}
 use Rattle.expr.specs.Cost.{costOf}
-use Rattle.expr.specs.Span.{spanOf}
 use Rattle.expr.specs.Answers.{tooShort, notFormula, costOr}
-use Rattle.expr.proofs.Spans.{whole-span}
+use Rattle.expr.proofs.Spans.{whole-ends, whole-cost}
 use Rattle.expr.proofs.compute_cost.Statement.{statement}
 use Rattle.expr.proofs.compute_cost.Tie as tie
 
@@ -40,31 +40,23 @@ returns-2 c =
 is-formula-requires : tie.Need-is-formula-requires
 is-formula-requires c κs = search needs
 
-span-starts-requires : tie.Need-span-starts-requires
-span-starts-requires c κs =
+cost-before-requires : tie.Need-cost-before-requires
+cost-before-requires c κs =
     let s = c .before .before .before .before .before .before .before .before .args in
-    whole-span (s .nv) (s .count) (s .ops .now) (s .operands .now) (sym (c .before .is-formula .ensures) ∙ c .if3 .taken) .most
-
-slice-aggregate-cost-span : tie.Need-slice-aggregate-cost-span
-slice-aggregate-cost-span c = search needs
-
-cost-span-requires : tie.Need-cost-span-requires
-cost-span-requires c κs =
-    let s = c .before .before .before .before .before .before .before .before .before .before .args in
-    let sp = whole-span (s .nv) (s .count) (s .ops .now) (s .operands .now) (sym (c .before .before .before .is-formula .ensures) ∙ c .before .before .if3 .taken) in
-    (sp, (let most = sp .most in search needs, c .before .span-starts .ensures))
+    whole-ends (s .nv) (s .count) (s .ops .now) (s .operands .now) (sym (c .before .is-formula .ensures) ∙ c .if3 .taken)
 
 cost-refused-requires-3 : tie.Need-cost-refused-requires-3
 cost-refused-requires-3 c κs = search needs
 
 returns-3 : tie.Need-returns-3
-unfolding spanOf
 returns-3 c =
-    let s = c .before .before .before .before .before .before .before .before .before .before .before .before .args in
-    let e1 = sym (c .before .before .before .before .before .before .before .before .if1 .left) ∙ c .before .before .before .before .before .before .before .before .before .outside .ensures in
-    let e4 = sym (c .before .before .before .before .before .before .if2 .left) ∙ c .before .before .before .before .before .before .before .too-short .ensures in
-    let e6 = sym (c .before .before .before .before .if3 .taken) ∙ c .before .before .before .before .before .is-formula .ensures in
-    ap (λ (x : CostInfo). costOr 0 (x .cost)) (c .before .cost-span .ensures) ∙ λ i. costOr (refuse (e1 i) 1 (refuse (e4 i) 4 (refuse (not (e6 i)) 6 0))) (costOf (tokens (s .count) (s .ops .now) (s .operands .now)))
+    let s = c .before .before .before .before .before .before .before .before .before .before .args in
+    let e1 = sym (c .before .before .before .before .before .before .if1 .left) ∙ c .before .before .before .before .before .before .before .outside .ensures in
+    let e4 = sym (c .before .before .before .before .if2 .left) ∙ c .before .before .before .before .before .too-short .ensures in
+    let e6 = sym (c .before .before .if3 .taken) ∙ c .before .before .before .is-formula .ensures in
+    ap (λ (x : SpanCost). costOr 0 (x .info .cost)) (c .before .cost-before .ensures)
+    ∙ ap (λ (x : Cost). costOr 0 x) (whole-cost (s .nv) (s .count) (s .ops .now) (s .operands .now) (sym (c .before .before .before .is-formula .ensures) ∙ c .before .before .if3 .taken))
+    ∙ λ i. costOr (refuse (e1 i) 1 (refuse (e4 i) 4 (refuse (not (e6 i)) 6 0))) (costOf (tokens (s .count) (s .ops .now) (s .operands .now)))
 
 returns-4 : tie.Need-returns-4
 returns-4 c =
@@ -85,9 +77,7 @@ compute-cost-spec =
     cost-refused-requires-2
     returns-2
     is-formula-requires
-    span-starts-requires
-    slice-aggregate-cost-span
-    cost-span-requires
+    cost-before-requires
     cost-refused-requires-3
     returns-3
     returns-4)
