@@ -41,9 +41,7 @@ pub fn candidates_refusal(
     if simd::PAIRS_MAX < pairs {
         return 7;
     }
-    // no sample is looked at
-    let mut unused: [u64; 1] = [0; 1];
-    if order::inner::is_order(&mut unused, listed, pairs, slots) {
+    if order::inner::is_order(listed, pairs, slots) {
         return 0;
     }
     8

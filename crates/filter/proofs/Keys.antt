@@ -12,8 +12,7 @@ use Rattle.arith.specs.Word.{modulus}
 use Rattle.arith.proofs.Remainders.{modulus-is}
 use Rattle.filter.specs.declared.inner.Residue.{Residue}
 use Rattle.filter.specs.declared.inner.Sweep.{Sweep}
-use Rattle.order.specs.Samples.{wordAt}
-use Rattle.filter.specs.Places.{Ordered, Lower, Skips, FirstOf}
+use Rattle.filter.specs.Places.{wordAt, Ordered, Lower, Skips, FirstOf}
 use Rattle.filter.specs.Sweeps.{inClass, Small, Sweeping, Settled}
 use Rattle.filter.specs.Steps.{KeysPassed, KeySettled}
 use Rattle.filter.proofs.PlaceLaws.{skips-none, skips-join}

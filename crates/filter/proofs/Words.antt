@@ -6,11 +6,11 @@ use Prim.Native.Nat.{ℕ, _+_, _-_, _*_, _≤_, _<_}
 use native.Mathlib.Nat.{eq-or-lt-of-le}
 use native.Mathlib.Decide.{decLt}
 use native.Mathlib.Omega.{arith}
-use lib.ListN.{length, getD}
+use lib.ListN.{length, set, getD, length-set}
+use Rattle.arith.proofs.Fill.{filled-more}
 use Rattle.order.proofs.OrderLaws.{order-lent}
-use Rattle.order.specs.Samples.{wordAt, sampleStep, Kept}
-use Rattle.filter.specs.Places.{Ordered, Sampled, Reached, Lower}
-use Rattle.filter.specs.Steps.{Ascends, SampleCount, AfterSamples, Window}
+use Rattle.filter.specs.Places.{wordAt, sampleStep, Ordered, Sampled, Reached, Lower}
+use Rattle.filter.specs.Steps.{Ascends, AfterSamples, Window}
 use Rattle.filter.proofs.Halving.{reached-earlier}
 
 module _ (n : ℕ) (rows order : List ℕ) (o : Ordered n rows order) where
@@ -38,13 +38,13 @@ module _ (n : ℕ) (rows order : List ℕ) (o : Ordered n rows order) where
     pub samples-few : m ≤ 262144
     samples-few = elim (decLt 0 m) [ yes h ↦ omega (arith, sampled .within (m - 1) (omega arith), o .most) | no h ↦ omega arith ]
 
--- the samples that a test kept
-pub sampled-kept : (n : ℕ) (rows order samples : List ℕ) (m : ℕ) → Kept rows order samples n → SampleCount (length samples) n m → Sampled n rows order samples m
-sampled-kept n rows order samples m kept count = record {
-  fit = count .fit;
-  within = count .within;
-  is = λ j h. kept .is j (omega (arith, count .fit)) (count .within j h);
-}
+    -- one sample more
+    pub sampled-more : (v : ℕ) → m < length samples → sampleStep * m < n → v ≡ wordAt rows order (sampleStep * m) → Sampled n rows order (set samples m v) (m + 1)
+    sampled-more v h b e = record {
+      fit = omega (arith, length-set samples m v);
+      within = λ j l. omega arith;
+      is = filled-more (λ (j : ℕ). wordAt rows order (sampleStep * j)) samples m v h (sampled .is) e;
+    }
 
 -- u samples are below the key, which the word at lo is too, and the search goes on from `from`
 pub record Narrowed (n : ℕ) (rows order samples : List ℕ) (m lo key u from : ℕ) : Type 0 where

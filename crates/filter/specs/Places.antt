@@ -4,8 +4,11 @@ use mathlib.Core.Bool.{Bool, true, false}
 use mathlib.Core.List.{List}
 use Prim.Native.Nat.{ℕ, _*_, _≤_, _<_}
 use lib.ListN.{length, take, getD}
-use Rattle.order.specs.Order.{isOrder}
-use Rattle.order.specs.Samples.{wordAt, sampleStep}
+use Rattle.order.specs.Order.{firstWord, isOrder}
+
+-- the first word of the slot at place k
+abbrev pub wordAt : List ℕ → List ℕ → ℕ → ℕ
+wordAt rows order k = firstWord rows (getD order k 0)
 
 -- a lent order list of n slots that no refusal turns back
 pub record Ordered (n : ℕ) (rows order : List ℕ) : Type 0 where
@@ -13,6 +16,9 @@ pub record Ordered (n : ℕ) (rows order : List ℕ) : Type 0 where
   pub rows-fit : 16 * n ≤ length rows
   pub order-fit : n ≤ length order
   pub is : isOrder n rows (take n order) ≡ true
+
+abbrev pub sampleStep : ℕ
+sampleStep = 16
 
 -- m samples: number j is the first word at place 16 × j
 pub record Sampled (n : ℕ) (rows order samples : List ℕ) (m : ℕ) : Type 0 where

@@ -6,18 +6,12 @@ use Prim.Native.Nat.{ℕ, _+_, _*_, _^_, _≤_, _<_}
 use lib.ListN.{getD}
 use Rattle.filter.specs.declared.inner.Residue.{Residue}
 use Rattle.filter.specs.declared.inner.Sweep.{Sweep}
-use Rattle.order.specs.Samples.{wordAt, sampleStep}
-use Rattle.filter.specs.Places.{Skips}
+use Rattle.filter.specs.Places.{wordAt, sampleStep, Skips}
 use Rattle.filter.specs.Sweeps.{inClass, Sweeping}
 
 -- f ascends up to n
 pub record Ascends (f : ℕ → ℕ) (n : ℕ) : Type 0 where
   pub up : (j k : ℕ) → j ≤ k → k < n → f j ≤ f k
-
--- r of the samples that there is room for, each of a place below n
-pub record SampleCount (room n r : ℕ) : Type 0 where
-  pub fit : r ≤ room
-  pub within : (j : ℕ) → j < r → sampleStep * j < n
 
 -- r is lo, or no later than the place after the last of u samples
 pub record AfterSamples (lo u r : ℕ) : Type 0 where

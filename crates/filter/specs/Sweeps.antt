@@ -8,8 +8,7 @@ use lib.ListN.{getD}
 use Rattle.order.specs.Order.{firstWord}
 use Rattle.filter.specs.declared.inner.Residue.{Residue}
 use Rattle.filter.specs.declared.inner.Sweep.{Sweep}
-use Rattle.order.specs.Samples.{wordAt}
-use Rattle.filter.specs.Places.{Skips}
+use Rattle.filter.specs.Places.{wordAt, Skips}
 
 -- the first word of slot s leaves `first` modulo 2^bits
 abbrev pub inClass : Residue → List ℕ → ℕ → Bool

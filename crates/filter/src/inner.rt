@@ -1,13 +1,11 @@
 // What the candidates and the search call with an order list that they have tested.
-use order::inner::SAMPLE_STEP;
 ghost use mathlib.Core.Path.{_≡_};
 ghost use Prim.Native.Nat.{ℕ, _+_, _-_, _%_, _^_, _≤_, _<_};
 ghost use lib.ListN.{length, getD};
 ghost use Rattle.arith.specs.Word.{modulus};
-ghost use Rattle.order.specs.Samples.{wordAt};
-ghost use Rattle.filter.specs.Places.{Ordered, Sampled, Reached, Lower, FirstOf};
+ghost use Rattle.filter.specs.Places.{wordAt, Ordered, Sampled, Reached, Lower, FirstOf};
 ghost use Rattle.filter.specs.Sweeps.{inClass, Small, Sweeping, Settled};
-ghost use Rattle.filter.specs.Steps.{SampleCount, Ascends, AfterSamples, Window, KeysPassed, KeySettled};
+ghost use Rattle.filter.specs.Steps.{Ascends, AfterSamples, Window, KeysPassed, KeySettled};
 
 // The words that leave `first` modulo 2^bits; those below 2^w are keys.
 pub struct Residue {
@@ -23,6 +21,9 @@ pub struct Sweep {
     pub left: u64,
 }
 
+// A sample is taken of each so many places.
+pub const SAMPLE_STEP: usize = 16;
+
 // The first word of the slot at place k.
 fn word_at(rows: &[u64], order: &[u32], n: usize, k: usize) -> u64
     requires { ⌜ Ordered n (now rows) (now order) × (k < n) ⌝ }
@@ -32,15 +33,20 @@ fn word_at(rows: &[u64], order: &[u32], n: usize, k: usize) -> u64
     rows[simd::ROW_WORDS * s]
 }
 
-// How many samples a search uses: one of each so many places, as far as there is room.
-pub fn sample_count(room: usize, n: usize) -> usize
-    ensures { λ r. ⌜ SampleCount room n r ⌝ }
+// Takes samples as long as there are places and room, and answers how many.
+pub fn sample(samples: &mut [u64], rows: &[u64], order: &[u32], n: usize) -> usize
+    requires { ⌜ Ordered n (now rows) (now order) ⌝ }
+    ensures { λ r. ⌜ Sampled n (now (rows .entry)) (now (order .entry)) (now (samples .exit)) r ⌝ }
 {
-    let most = n / SAMPLE_STEP;
-    if room < most {
-        return room;
+    let mut j: usize = 0;
+    while SAMPLE_STEP * j < n {
+        if j == samples.len() {
+            return j;
+        }
+        samples[j] = word_at(rows, order, n, SAMPLE_STEP * j);
+        j += 1;
     }
-    most
+    j
 }
 
 // How many of the m samples are below the key.

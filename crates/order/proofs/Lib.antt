@@ -2,7 +2,6 @@
 pub mod Sorted
 pub mod OrderLaws
 pub mod Tested
-pub mod Sampling
 pub mod Count
 pub mod Halves
 pub mod Moves

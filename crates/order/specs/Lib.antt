@@ -1,4 +1,3 @@
 -- What the contracts of this crate, and the definitions above it, cite.
 pub mod Order
-pub mod Samples
 pub mod Radix

@@ -2,46 +2,26 @@
 mod radix;
 
 ghost use mathlib.Core.Path.{_≡_};
-ghost use mathlib.Core.Bool.{true};
 ghost use mathlib.Core.List.{_++_};
 ghost use Prim.Native.Nat.{_*_, _^_, _≤_, _<_};
 ghost use lib.ListN.{length, take, drop};
 ghost use Rattle.order.specs.Order.{isOrder, orderOf};
-ghost use Rattle.order.specs.Samples.{Kept, OneKept};
 
-// A sample is kept of each so many places.
-pub const SAMPLE_STEP: usize = 16;
-
-// Keeps word w of place i, if a sample is kept of it and there is room.
-fn keep_sample(samples: &mut [u64], i: usize, w: u64)
-    ensures { λ _. ⌜ OneKept (now (samples .entry)) (now (samples .exit)) i w ⌝ }
-{
-    if i % SAMPLE_STEP == 0 {
-        let j = i / SAMPLE_STEP;
-        if j < samples.len() {
-            samples[j] = w;
-        }
-    }
-}
-
-// Whether the first n entries of `order` are the order list of the first n rows. Stops at the first that can't be. Keeps samples of the
-// words on the way, as far as there is room.
-pub fn is_order(samples: &mut [u64], rows: &[u64], n: usize, order: &[u32]) -> bool
+// Whether the first n entries of `order` are the order list of the first n rows. Stops at the first that can't be.
+pub fn is_order(rows: &[u64], n: usize, order: &[u32]) -> bool
     requires { ⌜ (16 * n ≤ length (now rows)) × (n ≤ length (now order)) ⌝ }
     ensures { λ r. ⌜ r ≡ isOrder n (now (rows .entry)) (take n (now (order .entry))) ⌝ }
-    ensures { λ r. ⌜ (r ≡ true → Kept (now (rows .entry)) (now (order .entry)) (now (samples .exit)) n) ⌝ }
 {
     let mut word: u64 = 0;
     let mut least: usize = 0;
     let mut i: usize = 0;
     while i < n {
         let s = order[i] as usize;
+        i += 1;
         if s >= n {
             return false;
         }
         let w = rows[simd::ROW_WORDS * s];
-        keep_sample(samples, i, w);
-        i += 1;
         if w < word {
             return false;
         }

@@ -10,7 +10,6 @@ ghost use Prim.Native.Nat.{ℕ, _+_, _*_, _≤_, _<_};
 ghost use lib.ListN.{length, take, getD};
 ghost use Rattle.arith.specs.Lists.{countUp, firstThat};
 ghost use Rattle.order.specs.Order.{firstWord};
-ghost use Rattle.order.specs.Samples.{Kept};
 ghost use Rattle.filter.specs.Places.{Ordered, Sampled};
 ghost use Rattle.filter.specs.Sweeps.{Small};
 ghost use Rattle.product.specs.Trying.{fitting, slotsFor, withAtoms, withPairs, tryEverything};
@@ -41,6 +40,12 @@ struct RunStop {
     at: usize,
     fits: bool,
 }
+
+// One sample of each sixteen pairs.
+const SAMPLES_MAX: usize = 16384;
+
+// With no more pairs than these, the samples cost more than they save.
+const UNSAMPLED_MAX: usize = 4096;
 
 // Whether row a of xs times row b of ys is the target. Stops at the first word that isn't.
 fn fits(xs: &[u64], a: usize, ys: &[u64], b: usize, target: &[u64], w: u32) -> bool
@@ -275,22 +280,42 @@ fn two_atoms(atoms: &[u64], count: usize, target: &[u64], w: u32) -> Found
     search_atoms(&firsts, atoms, count, target, w)
 }
 
-// The second stage, with the samples of the order list.
+// The second stage, with samples.
+fn sampled_pairs(
+    atoms: &[u64],
+    count: usize,
+    listed: &[u64],
+    slots: &[u32],
+    n: usize,
+    target: &[u64],
+    w: u32,
+) -> Found
+    requires { ⌜ Lent w count (now atoms) n (now listed) (now slots) (now target) ⌝ }
+    ensures { λ r. ⌜ foundSays r ≡ firstThat (fitting w (now (atoms .entry)) (now (listed .entry)) (now (target .entry))) (withPairs w count (now (atoms .entry)) n (now (listed .entry)) (now (target .entry))) ⌝ }
+{
+    let mut samples: [u64; SAMPLES_MAX] = [0; SAMPLES_MAX];
+    let m = filter::inner::sample(&mut samples, listed, slots, n);
+    search_pairs(atoms, count, listed, slots, n, &samples, m, target, w)
+}
+
+// The second stage. Few pairs are searched with no samples.
 fn atom_and_pair(
     atoms: &[u64],
     count: usize,
     listed: &[u64],
     slots: &[u32],
     n: usize,
-    samples: &[u64],
     target: &[u64],
     w: u32,
 ) -> Found
-    requires { ⌜ Lent w count (now atoms) n (now listed) (now slots) (now target) × Kept (now listed) (now slots) (now samples) n ⌝ }
+    requires { ⌜ Lent w count (now atoms) n (now listed) (now slots) (now target) ⌝ }
     ensures { λ r. ⌜ foundSays r ≡ firstThat (fitting w (now (atoms .entry)) (now (listed .entry)) (now (target .entry))) (withPairs w count (now (atoms .entry)) n (now (listed .entry)) (now (target .entry))) ⌝ }
 {
-    let m = filter::inner::sample_count(samples.len(), n);
-    search_pairs(atoms, count, listed, slots, n, samples, m, target, w)
+    if n > UNSAMPLED_MAX {
+        return sampled_pairs(atoms, count, listed, slots, n, target, w);
+    }
+    let none: [u64; 1] = [0; 1];
+    search_pairs(atoms, count, listed, slots, n, &none, 0, target, w)
 }
 
 // Both stages: two atoms first, then an atom and a listed pair.
@@ -300,16 +325,15 @@ pub fn search_rows(
     listed: &[u64],
     slots: &[u32],
     n: usize,
-    samples: &[u64],
     target: &[u64],
     w: u32,
 ) -> Found
-    requires { ⌜ Lent w count (now atoms) n (now listed) (now slots) (now target) × Kept (now listed) (now slots) (now samples) n ⌝ }
+    requires { ⌜ Lent w count (now atoms) n (now listed) (now slots) (now target) ⌝ }
     ensures { λ r. ⌜ foundSays r ≡ tryEverything w count (now (atoms .entry)) n (now (listed .entry)) (now (target .entry)) ⌝ }
 {
     let found = two_atoms(atoms, count, target, w);
     match found {
-        Found::Nothing => atom_and_pair(atoms, count, listed, slots, n, samples, target, w),
+        Found::Nothing => atom_and_pair(atoms, count, listed, slots, n, target, w),
         Found::Atoms(a, b) => Found::Atoms(a, b),
         Found::AtomPair(a, s) => Found::AtomPair(a, s),
     }

@@ -1,11 +1,9 @@
 // The refusals of a product search.
 ghost use mathlib.Core.Path.{_≡_};
-ghost use Rattle.order.specs.Samples.{Kept};
 ghost use Rattle.search.specs.Answer.{searchRefusal};
 
-// The refusal of a product search; 0 for none. The test of the order list keeps samples.
+// The refusal of a product search; 0 for none.
 pub fn search_refusal(
-    samples: &mut [u64],
     w: u32,
     count: usize,
     atoms: &[u64],
@@ -15,7 +13,6 @@ pub fn search_refusal(
     target: [u64; 16],
 ) -> u32
     ensures { λ r. ⌜ r ≡ searchRefusal w count (now (atoms .entry)) pairs (now (listed .entry)) (now (slots .entry)) target ⌝ }
-    ensures { λ r. ⌜ (r ≡ 0 → Kept (now (listed .entry)) (now (slots .entry)) (now (samples .exit)) pairs) ⌝ }
 {
     if arith::bad_width(w) {
         return 2;
@@ -38,7 +35,7 @@ pub fn search_refusal(
     if simd::PAIRS_MAX < pairs {
         return 7;
     }
-    if !order::inner::is_order(samples, listed, pairs, slots) {
+    if !order::inner::is_order(listed, pairs, slots) {
         return 8;
     }
     0

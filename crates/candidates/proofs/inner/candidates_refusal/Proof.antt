@@ -57,31 +57,28 @@ returns-7 c =
     let small = or-later (lt-leb _ _ (mask-le (a .w) _ _ (width .most) (c .before .before .before .bitmask .ensures) (c .before .before .if5 .left))) (lt-leb _ _ (mask-le (a .w) _ _ (width .most) (c .before .before .before .bitmask .ensures) (c .before .if6 .left))) in
     sym (refused-later 2 wide (refused-later 4 short (refused-later 5 small (refused-here 7 _ (lt-ltb _ _ (c .if7 .taken))))))
 
-slice-aggregate-is-order : tie.Need-slice-aggregate-is-order
-slice-aggregate-is-order c = search needs
-
 is-order-requires : tie.Need-is-order-requires
 is-order-requires c κs = search needs
 
 returns-8 : tie.Need-returns-8
 returns-8 c =
-    let wide = sym (c .before .before .before .before .before .before .before .before .before .before .before .before .bad-width .ensures) ∙ c .before .before .before .before .before .before .before .before .before .before .before .if1 .left in
-    let short = or-later (or-later (le-ltb _ _ (c .before .before .before .before .before .before .before .before .before .before .if2 .left)) (le-ltb _ _ (c .before .before .before .before .before .before .before .before .before .if3 .left))) (le-ltb _ _ (c .before .before .before .before .before .before .before .before .if4 .left)) in
-    let a = c .before .before .before .before .before .before .before .before .before .before .before .before .before .before .before .before .args in
+    let wide = sym (c .before .before .before .before .before .before .before .before .before .before .bad-width .ensures) ∙ c .before .before .before .before .before .before .before .before .before .if1 .left in
+    let short = or-later (or-later (le-ltb _ _ (c .before .before .before .before .before .before .before .before .if2 .left)) (le-ltb _ _ (c .before .before .before .before .before .before .before .if3 .left))) (le-ltb _ _ (c .before .before .before .before .before .before .if4 .left)) in
+    let a = c .before .before .before .before .before .before .before .before .before .before .before .before .before .before .args in
     let width = within 1 64 (a .w) wide in
-    let small = or-later (lt-leb _ _ (mask-le (a .w) _ _ (width .most) (c .before .before .before .before .before .before .before .bitmask .ensures) (c .before .before .before .before .before .before .if5 .left))) (lt-leb _ _ (mask-le (a .w) _ _ (width .most) (c .before .before .before .before .before .before .before .bitmask .ensures) (c .before .before .before .before .before .if6 .left))) in
-    let few = le-ltb _ _ (c .before .before .before .before .if7 .left) in
-    sym (refused-later 2 wide (refused-later 4 short (refused-later 5 small (refused-later 7 few (refused-later 8 (ap not (sym (c .before .before .is-order .ensures .0) ∙ c .if8 .taken)) refl)))))
+    let small = or-later (lt-leb _ _ (mask-le (a .w) _ _ (width .most) (c .before .before .before .before .before .bitmask .ensures) (c .before .before .before .before .if5 .left))) (lt-leb _ _ (mask-le (a .w) _ _ (width .most) (c .before .before .before .before .before .bitmask .ensures) (c .before .before .before .if6 .left))) in
+    let few = le-ltb _ _ (c .before .before .if7 .left) in
+    sym (refused-later 2 wide (refused-later 4 short (refused-later 5 small (refused-later 7 few (refused-later 8 (ap not (sym (c .before .is-order .ensures) ∙ c .if8 .taken)) refl)))))
 
 returns-9 : tie.Need-returns-9
 returns-9 c =
-    let wide = sym (c .before .before .before .before .before .before .before .before .before .before .before .before .bad-width .ensures) ∙ c .before .before .before .before .before .before .before .before .before .before .before .if1 .left in
-    let short = or-later (or-later (le-ltb _ _ (c .before .before .before .before .before .before .before .before .before .before .if2 .left)) (le-ltb _ _ (c .before .before .before .before .before .before .before .before .before .if3 .left))) (le-ltb _ _ (c .before .before .before .before .before .before .before .before .if4 .left)) in
-    let a = c .before .before .before .before .before .before .before .before .before .before .before .before .before .before .before .before .args in
+    let wide = sym (c .before .before .before .before .before .before .before .before .before .before .bad-width .ensures) ∙ c .before .before .before .before .before .before .before .before .before .if1 .left in
+    let short = or-later (or-later (le-ltb _ _ (c .before .before .before .before .before .before .before .before .if2 .left)) (le-ltb _ _ (c .before .before .before .before .before .before .before .if3 .left))) (le-ltb _ _ (c .before .before .before .before .before .before .if4 .left)) in
+    let a = c .before .before .before .before .before .before .before .before .before .before .before .before .before .before .args in
     let width = within 1 64 (a .w) wide in
-    let small = or-later (lt-leb _ _ (mask-le (a .w) _ _ (width .most) (c .before .before .before .before .before .before .before .bitmask .ensures) (c .before .before .before .before .before .before .if5 .left))) (lt-leb _ _ (mask-le (a .w) _ _ (width .most) (c .before .before .before .before .before .before .before .bitmask .ensures) (c .before .before .before .before .before .if6 .left))) in
-    let few = le-ltb _ _ (c .before .before .before .before .if7 .left) in
-    sym (refused-later 2 wide (refused-later 4 short (refused-later 5 small (refused-later 7 few (refused-here 8 _ (ap not (sym (c .before .before .is-order .ensures .0) ∙ c .if8 .left)))))))
+    let small = or-later (lt-leb _ _ (mask-le (a .w) _ _ (width .most) (c .before .before .before .before .before .bitmask .ensures) (c .before .before .before .before .if5 .left))) (lt-leb _ _ (mask-le (a .w) _ _ (width .most) (c .before .before .before .before .before .bitmask .ensures) (c .before .before .before .if6 .left))) in
+    let few = le-ltb _ _ (c .before .before .if7 .left) in
+    sym (refused-later 2 wide (refused-later 4 short (refused-later 5 small (refused-later 7 few (refused-here 8 _ (ap not (sym (c .before .is-order .ensures) ∙ c .if8 .left)))))))
 
 pub candidates-refusal-spec : {M : Type 1} → statement M
 candidates-refusal-spec =
@@ -96,7 +93,6 @@ candidates-refusal-spec =
     returns-5
     returns-6
     returns-7
-    slice-aggregate-is-order
     is-order-requires
     returns-8
     returns-9)

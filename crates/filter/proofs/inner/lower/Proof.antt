@@ -3,7 +3,7 @@ use mathlib.Core.Path.{subst}
 use Prim.Native.Nat.{ℕ, _<_, _≤_}
 use borrow.Author.Needs.{needs}
 use native.Mathlib.Omega.{arith}
-use Rattle.order.specs.Samples.{wordAt}
+use Rattle.filter.specs.Places.{wordAt}
 use Rattle.filter.proofs.Halving.{reached-here, reached-end}
 use Rattle.filter.proofs.Words.{words-ascend, samples-ascend, samples-few, Narrowed, window-next, window-rest, lower-from}
 use Rattle.filter.proofs.inner.lower.Statement.{statement}

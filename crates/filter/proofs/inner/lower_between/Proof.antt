@@ -3,7 +3,7 @@ use mathlib.Core.Path.{subst}
 use Prim.Native.Nat.{ℕ, _+_, _-_, _/_, _<_, _≤_}
 use borrow.Author.Needs.{needs}
 use native.Mathlib.Omega.{arith}
-use Rattle.order.specs.Samples.{wordAt}
+use Rattle.filter.specs.Places.{wordAt}
 use Rattle.filter.proofs.Halving.{Seek, seek-start, seek-right, seek-left, seek-done}
 use Rattle.filter.proofs.Words.{words-ascend}
 use Rattle.filter.proofs.inner.lower_between.Statement.{statement}

@@ -8,7 +8,7 @@ use Rattle.product.proofs.inner.search_rows.Tie as tie
 
 two-atoms-requires : tie.Need-two-atoms-requires
 two-atoms-requires c κs =
-    let lent = c .before .before .before .before .before .pre .0 in
+    let lent = c .before .before .before .before .pre in
     (lent .few, lent .atoms-fit, record { width = lent .width; long = lent .long; reduced = lent .reduced })
 
 enum-told : tie.Need-enum-told
@@ -26,19 +26,19 @@ enum-known-found-2 c = search needs
 returns : tie.Need-returns
 returns c =
     let f = c .before .before .before in
-    let a = f .before .before .before .before .before .before .args in
+    let a = f .before .before .before .before .before .args in
     in-second (a .w) (a .count) (a .atoms .now) (a .n) (a .listed .now) (a .target .now) (foundSays (c .atom-and-pair .result)) (ap foundSays (sym (c .before .enum-told .given .1)) ∙ f .two-atoms .ensures (a .listed .now)) (c .atom-and-pair .ensures)
 
 returns-2 : tie.Need-returns-2
 returns-2 c =
     let f = c .before .before .before in
-    let a = f .before .before .before .before .before .before .args in
+    let a = f .before .before .before .before .before .args in
     in-first (a .w) (a .count) (a .atoms .now) (a .n) (a .listed .now) (a .target .now) _ (ap foundSays (sym (c .before .found .given .1)) ∙ f .two-atoms .ensures (a .listed .now))
 
 returns-3 : tie.Need-returns-3
 returns-3 c =
     let f = c .before .before .before in
-    let a = f .before .before .before .before .before .before .args in
+    let a = f .before .before .before .before .before .args in
     in-first (a .w) (a .count) (a .atoms .now) (a .n) (a .listed .now) (a .target .now) _ (ap foundSays (sym (c .before .found2 .given .1)) ∙ f .two-atoms .ensures (a .listed .now))
 
 pub search-rows-spec : {M : Type 1} → statement M
