@@ -7,7 +7,9 @@ use Prim.Native.Nat.{ℕ, _<_}
 use lib.ListN.{replicate}
 use Rattle.arith.specs.Refusal.{unlessRefused, Outcome, refused, answer}
 use Rattle.simd.specs.declared.RowAnswer.{RowAnswer}
+use Rattle.expr.specs.declared.Cost.{Cost}
 use Rattle.expr.specs.declared.CostAnswer.{CostAnswer}
+use Rattle.probe.specs.declared.Draw.{Draw}
 use Rattle.probe.specs.declared.Point.{Point}
 use Rattle.probe.specs.declared.Points.{Points}
 use Rattle.atoms.specs.Encoding as bank
@@ -22,6 +24,7 @@ use Rattle.simjaldek.specs.declared.Reply.{Reply}
 use Rattle.simjaldek.specs.declared.WordReply.{WordReply}
 use Rattle.simjaldek.specs.declared.CostReply.{CostReply}
 use Rattle.simjaldek.specs.declared.RowReply.{RowReply}
+use Rattle.simjaldek.specs.declared.DrawReply.{DrawReply}
 use Rattle.simjaldek.specs.declared.PointWords.{PointWords}
 use Rattle.simjaldek.specs.declared.PointsReply.{PointsReply}
 use Rattle.simjaldek.specs.Slices.{rowIn, pointsIn, pointsRowRefusal}
@@ -92,6 +95,13 @@ wordReply (answer word) = record { refusal = 0; word = word }
 
 abbrev pub costReply : CostAnswer → CostReply
 costReply x = record { refusal = x .refusal; size = x .cost .size; products = x .cost .products; depth = x .cost .depth }
+
+-- a cost by its three numbers
+abbrev pub costFrom : ℕ → ℕ → ℕ → Cost
+costFrom size products depth = record { size = size; products = products; depth = depth }
+
+abbrev pub drawReply : Draw → DrawReply
+drawReply x = record { state = x .state; word = x .word }
 
 abbrev pub rowReply : RowAnswer → RowReply
 rowReply x = record { refusal = x .refusal; row = x .row }

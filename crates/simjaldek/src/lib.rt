@@ -3,13 +3,16 @@
 mod loaders;
 mod replies;
 
+use expr::Cost;
 ghost use mathlib.Core.Path.{_≡_};
 ghost use Prim.Native.Nat.{_-_, _*_};
 ghost use Rattle.arith.specs.Word.{modulus};
+ghost use Rattle.arith.specs.Cong.{Inverse};
 ghost use Rattle.arith.specs.Refusal.{refuse, outcome};
 ghost use Rattle.simd.specs.Gates.{applied, residual, matched};
 ghost use Rattle.expr.specs.Answers.{evaluated, costed};
-ghost use Rattle.probe.specs.Points.{madePoints};
+ghost use Rattle.expr.specs.Cost.{isBetter};
+ghost use Rattle.probe.specs.Points.{drawn, madePoints};
 ghost use Rattle.probe.specs.FormulaRow.{probed};
 ghost use Rattle.probe.specs.Fingerprint.{fingerprintOf};
 ghost use Rattle.pool.specs.Pool.{arrays};
@@ -17,7 +20,7 @@ ghost use Rattle.lookup.specs.Lookup.{found, handRefusal};
 ghost use Rattle.index.specs.Build.{arraysOf};
 ghost use Rattle.search.specs.Answer.{product};
 ghost use Rattle.simjaldek.specs.Slices.{rowIn, shortRow, rowRefusal, pointsIn, pointsRefusal, gateAt, twoShort, threeShort, gateRefusal};
-ghost use Rattle.simjaldek.specs.Reply.{orElse, rowOrElse, refusedReply, wordReply, costReply, pointsReply, matchReply, placeReply, productReply, slotReply, Indexed, Listed, BankReplied};
+ghost use Rattle.simjaldek.specs.Reply.{orElse, rowOrElse, refusedReply, wordReply, costReply, pointsReply, drawReply, costFrom, markOf, matchReply, placeReply, productReply, slotReply, Indexed, Listed, BankReplied};
 
 // An answer by numbers; all zeros beside a refusal.
 #[repr(C)]
@@ -62,6 +65,13 @@ pub struct PointWords {
 pub struct PointsReply {
     pub refusal: u32,
     pub points: [PointWords; 16],
+}
+
+// A state of splitmix64, and the word that it gave.
+#[repr(C)]
+pub struct DrawReply {
+    pub state: u64,
+    pub word: u64,
 }
 
 // A reply that is only a refusal.
@@ -263,6 +273,51 @@ pub extern "C" fn simjaldek_bitmask(w: u32) -> u64
     ensures { λ r. ⌜ r ≡ modulus w - 1 ⌝ }
 {
     arith::bitmask(w)
+}
+
+// `arith::mod_inverse_odd`.
+#[no_mangle]
+pub extern "C" fn simjaldek_mod_inverse_odd(m: u64, k: u32) -> u64
+    ensures { λ r. ⌜ Inverse (modulus k) m r ⌝ }
+{
+    arith::mod_inverse_odd(m, k)
+}
+
+// `probe::splitmix64`.
+#[no_mangle]
+pub extern "C" fn simjaldek_splitmix64(state: u64) -> DrawReply
+    ensures { λ r. ⌜ r ≡ drawReply (drawn state) ⌝ }
+{
+    let x = probe::splitmix64(state);
+    DrawReply {
+        state: x.state,
+        word: x.word,
+    }
+}
+
+// `Cost::is_better` of two costs by their numbers: 1 where the first is better, else 0.
+#[no_mangle]
+pub extern "C" fn simjaldek_is_better(
+    size: u32,
+    products: u32,
+    depth: u32,
+    size2: u32,
+    products2: u32,
+    depth2: u32,
+) -> u32
+    ensures { λ r. ⌜ r ≡ markOf (isBetter (costFrom size products depth) (costFrom size2 products2 depth2)) ⌝ }
+{
+    let cost = Cost {
+        size,
+        products,
+        depth,
+    };
+    let other = Cost {
+        size: size2,
+        products: products2,
+        depth: depth2,
+    };
+    replies::mark_of(cost.is_better(other))
 }
 
 // `simd::gate_apply`, with the gate's number. Refuses 2, 4, and 6 for a number above 4.

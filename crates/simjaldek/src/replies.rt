@@ -65,7 +65,7 @@ pub fn of_bank(x: BankAnswer) -> Reply
     }
 }
 
-fn mark_of(mark: bool) -> u32
+pub fn mark_of(mark: bool) -> u32
     ensures { λ r. ⌜ r ≡ markOf mark ⌝ }
 {
     if mark {
