@@ -47,6 +47,13 @@ pub struct PointsReply {
     pub points: [PointWords; 16],
 }
 
+/// A state of splitmix64, and the word that it gave.
+#[repr(C)]
+pub struct DrawReply {
+    pub state: u64,
+    pub word: u64,
+}
+
 extern "C" {
     pub fn simjaldek_product_search(
         w: u32,
@@ -159,6 +166,19 @@ extern "C" {
     pub fn simjaldek_fingerprint(row: *const u64, row_len: usize) -> WordReply;
 
     pub fn simjaldek_bitmask(w: u32) -> u64;
+
+    pub fn simjaldek_mod_inverse_odd(m: u64, k: u32) -> u64;
+
+    pub fn simjaldek_splitmix64(state: u64) -> DrawReply;
+
+    pub fn simjaldek_is_better(
+        size: u32,
+        products: u32,
+        depth: u32,
+        size2: u32,
+        products2: u32,
+        depth2: u32,
+    ) -> u32;
 
     pub fn simjaldek_gate_apply(
         a: *const u64,

@@ -325,6 +325,35 @@ pub fn bitmask(width: u32) -> u64 {
     unsafe { ffi::simjaldek_bitmask(width) }
 }
 
+/// The number below 2^k whose product with m is 1 modulo 2^k; an even m has none, and gets 0. From 64 up k counts as 64.
+pub fn mod_inverse_odd(m: u64, k: u32) -> u64 {
+    // SAFETY: the function takes numbers only.
+    unsafe { ffi::simjaldek_mod_inverse_odd(m, k) }
+}
+
+/// One step of splitmix64: the next state, and its word.
+pub fn splitmix64(state: u64) -> (u64, u64) {
+    // SAFETY: the function takes a number only.
+    let draw = unsafe { ffi::simjaldek_splitmix64(state) };
+    (draw.state, draw.word)
+}
+
+/// Whether the first cost is strictly smaller in (size, products, depth); the first difference decides.
+pub fn is_better(cost: Cost, other: Cost) -> bool {
+    // SAFETY: the function takes numbers only.
+    let mark = unsafe {
+        ffi::simjaldek_is_better(
+            cost.size,
+            cost.products,
+            cost.depth,
+            other.size,
+            other.products,
+            other.depth,
+        )
+    };
+    mark == 1
+}
+
 /// The gate of this number in each of sixteen places. Refuses 2, 4, and 6 for a number above 4.
 pub fn gate_apply(a: &[u64], b: &[u64], gate: u32, width: u32) -> Result<Row, Refusal> {
     // SAFETY: each pointer comes with its own slice's length; the function reads within these lengths and keeps no pointer.

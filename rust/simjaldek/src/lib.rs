@@ -35,7 +35,7 @@ mod refusal;
 mod types;
 
 pub use formula::{Formula, FormulaBuf, ParseTokenError, Token};
-pub use lent::{bitmask, probe_points};
+pub use lent::{bitmask, mod_inverse_odd, probe_points, splitmix64};
 pub use owned::{candidates, product_search, Bank, Index};
 pub use refusal::Refusal;
 pub use types::{

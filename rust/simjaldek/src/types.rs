@@ -86,6 +86,13 @@ pub struct Cost {
     pub depth: u32,
 }
 
+impl Cost {
+    /// Whether this cost is strictly smaller; the first difference decides.
+    pub fn is_better(self, other: Self) -> bool {
+        crate::lent::is_better(self, other)
+    }
+}
+
 /// As in the listing: size, products, depth.
 impl fmt::Display for Cost {
     fn fmt(&self, f: &mut fmt::Formatter<'_>) -> fmt::Result {

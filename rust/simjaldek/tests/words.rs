@@ -1,8 +1,8 @@
 //! Words, rows, points and formulas against arithmetic written here.
 
 use simjaldek::{
-    bitmask, evaluate, fingerprint, gate_apply, gate_matches, gate_residual, probe_points,
-    probe_row, Formula, FormulaBuf, Gate, Refusal, Row, Token,
+    bitmask, evaluate, fingerprint, gate_apply, gate_matches, gate_residual, mod_inverse_odd,
+    probe_points, probe_row, Cost, Formula, FormulaBuf, Gate, Refusal, Row, Token,
 };
 
 fn splitmix64(state: &mut u64) -> u64 {
@@ -24,6 +24,46 @@ fn random_row(state: &mut u64) -> Row {
 fn bitmasks() {
     assert_eq!([0, 1, 63].map(bitmask), [0, 1, u64::MAX >> 1]);
     assert_eq!([64, 65, u32::MAX].map(bitmask), [u64::MAX; 3]);
+}
+
+#[test]
+fn inverses() {
+    for (m, k) in [(1, 1), (3, 8), (255, 8), (5, 64), (u64::MAX, 64), (7, 33)] {
+        let inverse = mod_inverse_odd(m, k);
+        assert_eq!(m.wrapping_mul(inverse) & mask(k), 1);
+        assert_eq!(inverse & mask(k), inverse);
+    }
+    assert_eq!([mod_inverse_odd(6, 8), mod_inverse_odd(3, 0)], [0, 0]);
+}
+
+#[test]
+fn draws() {
+    let mut state = 7;
+    let word = splitmix64(&mut state);
+    assert_eq!(simjaldek::splitmix64(7), (state, word));
+    // published: the first word from state 0
+    assert_eq!(simjaldek::splitmix64(0).1, 0xE220_A839_7B1D_CDAF);
+}
+
+#[test]
+fn better_costs() {
+    let cost = |size, products, depth| Cost {
+        size,
+        products,
+        depth,
+    };
+    let few = [
+        cost(0, 0, 0),
+        cost(1, 0, 2),
+        cost(1, 1, 0),
+        cost(2, 0, 1),
+        cost(u32::MAX, 1, 1),
+    ];
+    for (i, a) in few.into_iter().enumerate() {
+        for (j, b) in few.into_iter().enumerate() {
+            assert_eq!(a.is_better(b), i < j);
+        }
+    }
 }
 
 #[test]
