@@ -241,7 +241,13 @@ pub fn bank_refusal_same(line: &[u64]) -> bool {
         rows: place(line[119]),
         work: place(line[120]),
     };
-    let refusal = bank::bank_refusal(narrow(line[1]), narrow(line[2]), points, target, sizes);
+    let refusal = bank::inner::bank_refusal(
+        narrow(line[1]),
+        narrow(line[2]),
+        points,
+        target,
+        sizes,
+    );
     refusal as u64 == line[121]
 }
 

@@ -76,13 +76,7 @@ fn words_same(words: &[u64], line: &[u64], base: usize) -> bool
 }
 
 fn gate_of(number: u64) -> Gate {
-    match number {
-        0 => Gate::And,
-        1 => Gate::Or,
-        2 => Gate::Xor,
-        3 => Gate::Add,
-        _ => Gate::Mul,
-    }
+    simd::inner::gate_at(narrow(number))
 }
 
 // 1 STATE NEXT WORD

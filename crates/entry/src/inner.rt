@@ -171,7 +171,8 @@ pub fn under_unary(e: Entry, u: Unary, w: u32) -> Entry
     Entry { text, cost, row }
 }
 
-fn gate_opcode(g: Gate) -> u8
+// The opcode of a gate.
+pub fn gate_opcode(g: Gate) -> u8
     ensures { λ r. ⌜ r ≡ opcodeOf (Binary g) ⌝ }
 {
     match g {

@@ -102,7 +102,7 @@ fn reach_refusal(numbers: [u64; 115]) -> u32
         rows: ROW_WORDS * ATOMS_MAX,
         work: WORK_WORDS,
     };
-    bank::bank_refusal(nv as u32, numbers[1] as u32, points, target, sizes)
+    bank::inner::bank_refusal(nv as u32, numbers[1] as u32, points, target, sizes)
 }
 
 // The refusal of the numbers of a text, 0 where there is none. Of a variable count above 6 nothing past the first number is read.

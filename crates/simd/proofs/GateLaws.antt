@@ -11,10 +11,27 @@ use Rattle.arith.specs.Cong.{Cong}
 use Rattle.arith.specs.Word.{subOf}
 use Rattle.arith.proofs.Congruence.{cong-trans, cong-add, cong-mul, cong-mod, cong-sym, sub-add}
 use Rattle.arith.proofs.Refusals.{true-not-false}
-use Rattle.simd.specs.Gates.{gateOf, residualOf, invertible}
+use Rattle.simd.specs.Gates.{gateNumber, gateAt, gateOf, residualOf, invertible}
 use Rattle.simd.specs.declared.Gate.{Gate}
 use Rattle.simd.specs.declared.Gate.the-variants.{And, Or, Xor, Add, Mul}
 
+-- ---- gates and their numbers
+pub number-gate : (g : Gate) → gateAt (gateNumber g) ≡ g
+number-gate And = refl
+number-gate Or = refl
+number-gate Xor = refl
+number-gate Add = refl
+number-gate Mul = refl
+
+-- the last arm of a test by numbers
+pub gate-last : (k : ℕ) → (k ≡ 0 → ⊥) → (k ≡ 1 → ⊥) → (k ≡ 2 → ⊥) → (k ≡ 3 → ⊥) → Mul ≡ gateAt k
+gate-last zero a b c d = absurd (a refl)
+gate-last (suc zero) a b c d = absurd (b refl)
+gate-last (suc (suc zero)) a b c d = absurd (c refl)
+gate-last (suc (suc (suc zero))) a b c d = absurd (d refl)
+gate-last (suc (suc (suc (suc k)))) a b c d = refl
+
+-- ---- what a gate gives
 -- every gate commutes
 pub gate-comm : (g : Gate) (w a b : ℕ) → gateOf g w a b ≡ gateOf g w b a
 unfolding gateOf

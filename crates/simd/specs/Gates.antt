@@ -1,7 +1,7 @@
 -- Gates on words and on rows. A "row" is 01's term: sixteen words, a formula's values at the sixteen points. Assumes nothing.
 use mathlib.Core.Bool.{Bool, true, false, cond}
 use mathlib.Core.List.{List, [], _∷_, zipWith}
-use Prim.Native.Nat.{ℕ, _+_, _*_, _%_, _^_}
+use Prim.Native.Nat.{ℕ, zero, suc, _+_, _*_, _%_, _^_}
 use lib.Bits.{bitAnd, bitOr, bitXor}
 use lib.Dec.{eqb}
 use lib.ListN.{replicate}
@@ -20,6 +20,14 @@ gateNumber Or = 1
 gateNumber Xor = 2
 gateNumber Add = 3
 gateNumber Mul = 4
+
+-- the other way; a number above 4 is no gate's, and is taken for Mul where nothing refused it before
+abbrev pub gateAt : ℕ → Gate
+gateAt zero = And
+gateAt (suc zero) = Or
+gateAt (suc (suc zero)) = Xor
+gateAt (suc (suc (suc zero))) = Add
+gateAt (suc (suc (suc (suc k)))) = Mul
 
 -- 01, cobra-simd lib.rs: And, Or, Xor leave high bits in place; Add and Mul reduce. The one place that says what a gate gives: proofs/GateLaws has its laws
 unfoldable pub gateOf : Gate → ℕ → ℕ → ℕ → ℕ

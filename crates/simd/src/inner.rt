@@ -5,8 +5,21 @@ ghost use mathlib.Core.Path.{_≡_};
 ghost use Prim.Native.Nat.{_+_, _*_, _^_, _≤_};
 ghost use lib.ListN.{length};
 ghost use Rattle.arith.specs.Parts.{partAt};
-ghost use Rattle.simd.specs.Gates.{gateOf, gateRow, residualOf, residualRow, sameRow};
+ghost use Rattle.simd.specs.Gates.{gateAt, gateOf, gateRow, residualOf, residualRow, sameRow};
 ghost use Rattle.simd.specs.Range.{reaches};
+
+// The gate of a number.
+pub fn gate_at(k: u32) -> Gate
+    ensures { λ r. ⌜ r ≡ gateAt k ⌝ }
+{
+    match k {
+        0 => Gate::And,
+        1 => Gate::Or,
+        2 => Gate::Xor,
+        3 => Gate::Add,
+        _ => Gate::Mul,
+    }
+}
 
 // One place of a gate.
 pub fn gate_apply_lane(a: u64, b: u64, g: Gate, w: u32) -> u64

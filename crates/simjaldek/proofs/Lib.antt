@@ -1,3 +1,3 @@
 -- The laws of this crate.
-pub mod Early
-pub mod Loading
+pub mod Banks
+pub mod Texts

@@ -1,15 +1,24 @@
 // The static library for Rust callers: each public call under a name of its own, over numbers and slices.
 // A refusal is a number of 01's table, 0 for none; a row is the first sixteen words of its slice, and a shorter slice is refused 4.
-mod loaders;
-mod replies;
-
+use abi::CostReply;
+use abi::DrawReply;
+use abi::PointsReply;
+use abi::Reply;
+use abi::RowReply;
+use abi::TextReply;
+use abi::TokenReply;
+use abi::WordReply;
+use abi::inner::replies;
+use abi::inner::slices;
 use expr::Cost;
+use listing::ListingAnswer;
 ghost use mathlib.Core.Path.{_≡_};
-ghost use Prim.Native.Nat.{_-_, _*_};
-ghost use Rattle.arith.specs.Word.{modulus};
+ghost use Prim.Native.Nat.{_+_, _-_, _*_, _%_, _^_};
+ghost use Rattle.arith.specs.Word.{modulus, notOf, negOf, subOf};
 ghost use Rattle.arith.specs.Cong.{Inverse};
 ghost use Rattle.arith.specs.Refusal.{refuse, outcome};
-ghost use Rattle.simd.specs.Gates.{applied, residual, matched};
+ghost use Rattle.simd.specs.Gates.{gateAt, applied, residual, matched};
+ghost use Rattle.expr.specs.Formula.{tokenAt, tokens, isFormula};
 ghost use Rattle.expr.specs.Answers.{evaluated, costed};
 ghost use Rattle.expr.specs.Cost.{isBetter};
 ghost use Rattle.probe.specs.Points.{drawn, madePoints};
@@ -19,72 +28,9 @@ ghost use Rattle.pool.specs.Pool.{arrays};
 ghost use Rattle.lookup.specs.Lookup.{found, handRefusal};
 ghost use Rattle.index.specs.Build.{arraysOf};
 ghost use Rattle.search.specs.Answer.{product};
-ghost use Rattle.simjaldek.specs.Slices.{rowIn, shortRow, rowRefusal, pointsIn, pointsRefusal, gateAt, twoShort, threeShort, gateRefusal};
-ghost use Rattle.simjaldek.specs.Reply.{orElse, rowOrElse, refusedReply, wordReply, costReply, pointsReply, drawReply, costFrom, markOf, matchReply, placeReply, productReply, slotReply, Indexed, Listed, BankReplied};
-
-// An answer by numbers; all zeros beside a refusal.
-#[repr(C)]
-pub struct Reply {
-    pub refusal: u32,
-    pub kind: u32,
-    pub a: u32,
-    pub b: u32,
-}
-
-// A word; 0 beside a refusal.
-#[repr(C)]
-pub struct WordReply {
-    pub refusal: u32,
-    pub word: u64,
-}
-
-// A cost; zeros beside a refusal.
-#[repr(C)]
-pub struct CostReply {
-    pub refusal: u32,
-    pub size: u32,
-    pub products: u32,
-    pub depth: u32,
-}
-
-// A row; zeros beside a refusal.
-#[repr(C)]
-pub struct RowReply {
-    pub refusal: u32,
-    pub row: [u64; 16],
-}
-
-// A point's six words.
-#[repr(C)]
-pub struct PointWords {
-    pub words: [u64; 6],
-}
-
-// Sixteen points; zeros beside a refusal.
-#[repr(C)]
-pub struct PointsReply {
-    pub refusal: u32,
-    pub points: [PointWords; 16],
-}
-
-// A state of splitmix64, and the word that it gave.
-#[repr(C)]
-pub struct DrawReply {
-    pub state: u64,
-    pub word: u64,
-}
-
-// A reply that is only a refusal.
-fn refused(refusal: u32) -> Reply
-    ensures { λ r. ⌜ r ≡ refusedReply refusal ⌝ }
-{
-    Reply {
-        refusal,
-        kind: 0,
-        a: 0,
-        b: 0,
-    }
-}
+ghost use Rattle.abi.specs.Slices.{rowIn, shortRow, rowRefusal, pointsIn, pointsRefusal, twoShort, threeShort, gateRefusal};
+ghost use Rattle.abi.specs.Reply.{orElse, rowOrElse, wordReply, costReply, pointsReply, drawReply, costFrom, markOf, matchReply, optionReply, numberReply, productReply, tokenReply};
+ghost use Rattle.simjaldek.specs.Beside.{Indexed, Listed, BankReplied, Texted};
 
 // `search::product_search`: kind 0 nothing, 1 the atoms a and b, 2 the atom a and the pair b. Refuses 2, 4, 5, 7, 8.
 #[no_mangle]
@@ -99,9 +45,9 @@ pub extern "C" fn simjaldek_product_search(
 ) -> Reply
     ensures { λ r. ⌜ r ≡ productReply (orElse (rowRefusal w (now (target .entry))) (product w count (now (atoms .entry)) pairs (now (listed .entry)) (now (slots .entry)) (rowIn (now (target .entry))))) ⌝ }
 {
-    let refusal = loaders::row_refusal(w, target);
+    let refusal = slices::row_refusal(w, target);
     if refusal != 0 {
-        return refused(refusal);
+        return replies::refused(refusal);
     }
     let row = simd::inner::load_row(target, 0);
     replies::of_product(search::product_search(w, count, atoms, pairs, listed, slots, row))
@@ -110,11 +56,11 @@ pub extern "C" fn simjaldek_product_search(
 // `lookup::find_row`: kind 1 the slot a, 0 none. Refuses 2, 4, 5, 7.
 #[no_mangle]
 pub extern "C" fn simjaldek_find_row(w: u32, count: usize, rows: &[u64], row: &[u64]) -> Reply
-    ensures { λ r. ⌜ r ≡ slotReply (orElse (rowRefusal w (now (row .entry))) (found w count (now (rows .entry)) (rowIn (now (row .entry))))) ⌝ }
+    ensures { λ r. ⌜ r ≡ optionReply (orElse (rowRefusal w (now (row .entry))) (found w count (now (rows .entry)) (rowIn (now (row .entry))))) ⌝ }
 {
-    let refusal = loaders::row_refusal(w, row);
+    let refusal = slices::row_refusal(w, row);
     if refusal != 0 {
-        return refused(refusal);
+        return replies::refused(refusal);
     }
     let asked = simd::inner::load_row(row, 0);
     replies::of_slot(lookup::find_row(w, count, rows, asked))
@@ -171,14 +117,30 @@ pub extern "C" fn simjaldek_build_bank(
 ) -> Reply
     ensures { λ r. ⌜ BankReplied nv w (now (points .entry)) (now (target .entry)) (arrays (now (lengths .entry)) (now (ops .entry)) (now (operands .entry)) (now (costs .entry)) (now (rows .entry))) (arrays (now (lengths .exit)) (now (ops .exit)) (now (operands .exit)) (now (costs .exit)) (now (rows .exit))) (now (work .entry)) (now (work .exit)) r ⌝ }
 {
-    let refusal = loaders::points_row_refusal(nv, w, points, target);
+    let refusal = slices::points_row_refusal(nv, w, points, target);
     if refusal != 0 {
-        return refused(refusal);
+        return replies::refused(refusal);
     }
-    let at = loaders::points_of(points);
+    let at = slices::points_of(points);
     let row = simd::inner::load_row(target, 0);
     let built = bank::build_bank(lengths, ops, operands, costs, rows, work, nv, w, at, row);
     replies::of_bank(built)
+}
+
+// `expr::token_at`: the token's opcode, 255 for none, and its operand.
+#[no_mangle]
+pub extern "C" fn simjaldek_token_at(ops: &[u8], operands: &[u64], at: usize) -> TokenReply
+    ensures { λ r. ⌜ r ≡ tokenReply (tokenAt (now (ops .entry)) (now (operands .entry)) at) ⌝ }
+{
+    replies::of_token(expr::token_at(ops, operands, at))
+}
+
+// `expr::is_formula`: 1 where it is one, else 0.
+#[no_mangle]
+pub extern "C" fn simjaldek_is_formula(nv: u32, count: usize, ops: &[u8], operands: &[u64]) -> u32
+    ensures { λ r. ⌜ r ≡ markOf (isFormula nv (tokens count (now (ops .entry)) (now (operands .entry)))) ⌝ }
+{
+    replies::mark_of(expr::is_formula(nv, count, ops, operands))
 }
 
 // `expr::eval`. Refuses 1, 2, 4, 6.
@@ -241,11 +203,11 @@ pub extern "C" fn simjaldek_probe(
 ) -> RowReply
     ensures { λ r. ⌜ r ≡ rowOrElse (pointsRefusal nv w (now (points .entry))) (probed nv w (pointsIn (now (points .entry))) count (now (ops .entry)) (now (operands .entry))) ⌝ }
 {
-    let refusal = loaders::points_refusal(nv, w, points);
+    let refusal = slices::points_refusal(nv, w, points);
     if refusal != 0 {
         return replies::refused_row(refusal);
     }
-    let at = loaders::points_of(points);
+    let at = slices::points_of(points);
     replies::of_row(probe::probe(nv, w, at, count, ops, operands))
 }
 
@@ -273,6 +235,62 @@ pub extern "C" fn simjaldek_bitmask(w: u32) -> u64
     ensures { λ r. ⌜ r ≡ modulus w - 1 ⌝ }
 {
     arith::bitmask(w)
+}
+
+// `arith::reduce`.
+#[no_mangle]
+pub extern "C" fn simjaldek_reduce(x: u64, w: u32) -> u64
+    ensures { λ r. ⌜ r ≡ x % modulus w ⌝ }
+{
+    arith::reduce(x, w)
+}
+
+// `arith::wrapping_mul`.
+#[no_mangle]
+pub extern "C" fn simjaldek_wrapping_mul(a: u64, b: u64) -> u64
+    ensures { λ r. ⌜ r ≡ (a * b) % 2 ^ 64 ⌝ }
+{
+    arith::wrapping_mul(a, b)
+}
+
+// `arith::mod_add`.
+#[no_mangle]
+pub extern "C" fn simjaldek_mod_add(a: u64, b: u64, w: u32) -> u64
+    ensures { λ r. ⌜ r ≡ (a + b) % modulus w ⌝ }
+{
+    arith::mod_add(a, b, w)
+}
+
+// `arith::mod_sub`.
+#[no_mangle]
+pub extern "C" fn simjaldek_mod_sub(a: u64, b: u64, w: u32) -> u64
+    ensures { λ r. ⌜ r ≡ subOf (modulus w) a b ⌝ }
+{
+    arith::mod_sub(a, b, w)
+}
+
+// `arith::mod_mul`.
+#[no_mangle]
+pub extern "C" fn simjaldek_mod_mul(a: u64, b: u64, w: u32) -> u64
+    ensures { λ r. ⌜ r ≡ (a * b) % modulus w ⌝ }
+{
+    arith::mod_mul(a, b, w)
+}
+
+// `arith::mod_not`.
+#[no_mangle]
+pub extern "C" fn simjaldek_mod_not(v: u64, w: u32) -> u64
+    ensures { λ r. ⌜ r ≡ notOf (modulus w) v ⌝ }
+{
+    arith::mod_not(v, w)
+}
+
+// `arith::mod_neg`.
+#[no_mangle]
+pub extern "C" fn simjaldek_mod_neg(v: u64, w: u32) -> u64
+    ensures { λ r. ⌜ r ≡ negOf (modulus w) v ⌝ }
+{
+    arith::mod_neg(v, w)
 }
 
 // `arith::mod_inverse_odd`.
@@ -325,13 +343,7 @@ pub extern "C" fn simjaldek_is_better(
 pub extern "C" fn simjaldek_gate_apply(a: &[u64], b: &[u64], g: u32, w: u32) -> RowReply
     ensures { λ r. ⌜ r ≡ rowOrElse (gateRefusal w (twoShort (now (a .entry)) (now (b .entry))) g) (applied (gateAt g) w (rowIn (now (a .entry))) (rowIn (now (b .entry)))) ⌝ }
 {
-    let refusal = loaders::gate_refusal(w, loaders::two_short(a, b), g);
-    if refusal != 0 {
-        return replies::refused_row(refusal);
-    }
-    let left = simd::inner::load_row(a, 0);
-    let right = simd::inner::load_row(b, 0);
-    replies::of_row(simd::gate_apply(left, right, loaders::gate_of(g), w))
+    replies::of_gate(false, a, b, g, w)
 }
 
 // `simd::gate_residual`, with the gate's number. Refuses 2, 4, and 6 for a number above 4.
@@ -339,13 +351,7 @@ pub extern "C" fn simjaldek_gate_apply(a: &[u64], b: &[u64], g: u32, w: u32) -> 
 pub extern "C" fn simjaldek_gate_residual(target: &[u64], a: &[u64], g: u32, w: u32) -> RowReply
     ensures { λ r. ⌜ r ≡ rowOrElse (gateRefusal w (twoShort (now (target .entry)) (now (a .entry))) g) (residual (gateAt g) w (rowIn (now (target .entry))) (rowIn (now (a .entry)))) ⌝ }
 {
-    let refusal = loaders::gate_refusal(w, loaders::two_short(target, a), g);
-    if refusal != 0 {
-        return replies::refused_row(refusal);
-    }
-    let whole = simd::inner::load_row(target, 0);
-    let left = simd::inner::load_row(a, 0);
-    replies::of_row(simd::gate_residual(whole, left, loaders::gate_of(g), w))
+    replies::of_gate(true, target, a, g, w)
 }
 
 // `simd::gate_matches`, with the gate's number: kind 1 the same, 0 different. Refuses 2, 4, and 6 for a number above 4.
@@ -359,29 +365,41 @@ pub extern "C" fn simjaldek_gate_matches(
 ) -> Reply
     ensures { λ r. ⌜ r ≡ matchReply (orElse (gateRefusal w (threeShort (now (a .entry)) (now (b .entry)) (now (target .entry))) g) (matched (gateAt g) w (rowIn (now (a .entry))) (rowIn (now (b .entry))) (rowIn (now (target .entry))))) ⌝ }
 {
-    let refusal = loaders::gate_refusal(w, loaders::three_short(a, b, target), g);
+    let refusal = slices::gate_refusal(w, slices::three_short(a, b, target), g);
     if refusal != 0 {
-        return refused(refusal);
+        return replies::refused(refusal);
     }
     let left = simd::inner::load_row(a, 0);
     let right = simd::inner::load_row(b, 0);
     let whole = simd::inner::load_row(target, 0);
-    replies::of_match(simd::gate_matches(left, right, whole, loaders::gate_of(g), w))
+    replies::of_match(simd::gate_matches(left, right, whole, simd::inner::gate_at(g), w))
 }
 
 // Where `lookup::atom_row` begins: the place in words of the first of the slot's sixteen. Refuses 4, 7.
 #[no_mangle]
 pub extern "C" fn simjaldek_atom_row(rows: &[u64], count: usize, slot: u32) -> Reply
-    ensures { λ r. ⌜ r ≡ placeReply (outcome (handRefusal count (now (rows .entry)) slot) (16 * slot)) ⌝ }
+    ensures { λ r. ⌜ r ≡ numberReply (outcome (handRefusal count (now (rows .entry)) slot) (16 * slot)) ⌝ }
 {
     if rows.len() / simd::ROW_WORDS < count {
-        return refused(4);
+        return replies::refused(4);
     }
     if simd::ATOMS_MAX < count {
-        return refused(7);
+        return replies::refused(7);
     }
     if count <= slot as usize {
-        return refused(7);
+        return replies::refused(7);
     }
     replies::answer(0, 16 * slot, 0)
+}
+
+// `listing::write_listing` of a whole text: the length of what the listing program writes, which stands in the buffer. Refuses 4.
+#[no_mangle]
+pub extern "C" fn simjaldek_write_listing(out: &mut [u8], text: &[u8]) -> TextReply
+    ensures { λ r. ⌜ Texted (now (text .entry)) (now (out .entry)) (now (out .exit)) r ⌝ }
+{
+    let read = parse::feed(parse::begin(), text);
+    match listing::write_listing(out, read) {
+        ListingAnswer::Written(length) => TextReply { refusal: 0, length },
+        ListingAnswer::Refused(refusal) => TextReply { refusal, length: 0 },
+    }
 }

@@ -1,11 +1,12 @@
 -- Laws of the list of trials, as the three loops pass through it. Assumes nothing.
 use mathlib.Core.Path.{_≡_, refl, sym, ap, _∙_}
 use mathlib.Core.List.{List, [], _∷_, _++_, map, flatMap, append-assoc, append-nil}
-use Prim.Native.Nat.{ℕ, _+_, _-_, _≤_, _<_}
+use Prim.Native.Nat.{ℕ, zero, suc, _+_, _-_, _≤_, _<_}
 use native.Mathlib.Numerals.{add-one}
 use native.Mathlib.Omega.{arith}
 use lib.ListN.{getD, take, drop, take-append-drop}
 use lib.Seq.{take-suc}
+use Rattle.simd.specs.Gates.{gateAt}
 use Rattle.simd.specs.declared.Gate.{Gate}
 use Rattle.simd.specs.declared.Gate.the-variants.{And, Or, Xor, Add, Mul}
 use Rattle.arith.specs.Lists.{countUp}
@@ -107,10 +108,20 @@ pub gates-none : (n : ℕ) → gatesUpTo n 0 ≡ []
 unfolding gatesUpTo flatMap
 gates-none n = refl
 
-pub gates-more : (n k : ℕ) → k < 5 → gatesUpTo n k ++ trialsOfGate n (getD allGates k And) ≡ gatesUpTo n (k + 1)
+gate-listed : (k : ℕ) → k < 5 → gateAt k ≡ getD allGates k And
+unfolding allGates
+gate-listed zero h = refl
+gate-listed (suc zero) h = refl
+gate-listed (suc (suc zero)) h = refl
+gate-listed (suc (suc (suc zero))) h = refl
+gate-listed (suc (suc (suc (suc zero)))) h = refl
+gate-listed (suc (suc (suc (suc (suc k))))) h = absurd (omega arith)
+
+pub gates-more : (n k : ℕ) → k < 5 → gatesUpTo n k ++ trialsOfGate n (gateAt k) ≡ gatesUpTo n (k + 1)
 unfolding gatesUpTo flatMap allGates
 gates-more n k h =
-    ap (λ (l : List Trial). gatesUpTo n k ++ l) (sym (append-nil (trialsOfGate n (getD allGates k And))))
+    ap (λ (g : Gate). gatesUpTo n k ++ trialsOfGate n g) (gate-listed k h)
+    ∙ ap (λ (l : List Trial). gatesUpTo n k ++ l) (sym (append-nil (trialsOfGate n (getD allGates k And))))
     ∙ sym (flat-append (trialsOfGate n) (take k allGates) (getD allGates k And ∷ []))
     ∙ ap (flatMap (trialsOfGate n)) (sym (ap (λ (j : ℕ). take j allGates) (add-one k) ∙ take-suc allGates k And h))
 

@@ -5,33 +5,11 @@ use simd::Gate;
 use trial::inner::Tally;
 ghost use mathlib.Core.Path.{_≡_};
 ghost use Prim.Native.Nat.{_<_};
-ghost use lib.ListN.{getD};
-ghost use Rattle.simd.specs.declared.Gate.the-variants.{And};
 ghost use Rattle.pairs.specs.Index.{allGates, firstC, trialsWith, trialsOfGate, trialsOf};
 ghost use Rattle.trial.specs.Steps.{Ready, Ran};
 
 // How many gates there are.
-const GATES: usize = 5;
-
-// The gate of a number.
-fn gate_at(k: usize) -> Gate
-    requires { ⌜ k < 5 ⌝ }
-    ensures { λ r. ⌜ r ≡ getD allGates k And ⌝ }
-{
-    if k == 0 {
-        return Gate::And;
-    }
-    if k == 1 {
-        return Gate::Or;
-    }
-    if k == 2 {
-        return Gate::Xor;
-    }
-    if k == 3 {
-        return Gate::Add;
-    }
-    Gate::Mul
-}
+const GATES: u32 = 5;
 
 // The first c that a gate tries with b: And and Or of an atom with itself are passed over.
 fn first_c(g: Gate, b: usize) -> usize
@@ -122,9 +100,9 @@ pub fn try_gates(
     ensures { λ r. ⌜ Ran job (now (rows .entry)) (now (pairs .entry)) (now (listed .entry)) 0 (now (work .exit)) (now (pairs .exit)) (now (listed .exit)) r (trialsOf allGates (job .count)) ⌝ }
 {
     let mut made: usize = 0;
-    let mut k: usize = 0;
+    let mut k: u32 = 0;
     while k < GATES {
-        let g = gate_at(k);
+        let g = simd::inner::gate_at(k);
         let t = try_gate(work, pairs, listed, rows, job, made, g);
         k += 1;
         if t.cut {

@@ -1,4 +1,4 @@
-//! Formulas: values, costs and rows.
+//! Formulas: values, costs and their order, rows.
 
 use oracle::access::{self, Formula, Row};
 use oracle::inputs::Inputs;
@@ -82,6 +82,15 @@ fn compare_formula(
         depth,
     };
     report.compare(Kind::Cost, &input, &cost, &Ok(theirs));
+    let near = [size, products, depth].map(|n| (n + inputs.below(3) as u32).saturating_sub(1));
+    let other = Cost {
+        size: near[0],
+        products: near[1],
+        depth: near[2],
+    };
+    let better = access::is_better([size, products, depth], near);
+    let ours = theirs.is_better(other);
+    report.compare(Kind::IsBetter, &(theirs, other), &ours, &better);
 }
 
 /// The row of both sides.

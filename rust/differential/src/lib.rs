@@ -9,6 +9,7 @@ mod banks;
 mod buffers;
 mod formulas;
 mod indexes;
+mod listings;
 mod refused;
 pub mod report;
 mod searches;
@@ -41,7 +42,7 @@ pub fn run(seed: u64, count: u64) -> Report {
     report
 }
 
-/// One round: banks, indexes and searches, formulas, words, and what is refused.
+/// One round: banks, indexes and searches, formulas, words, listings, and what is refused.
 pub fn round(seed: u64, number: u64, report: &mut Report) {
     report.begin(number);
     let start = Inputs::from_seed(number).word();
@@ -61,6 +62,7 @@ pub fn round(seed: u64, number: u64, report: &mut Report) {
     searches::compare(inputs, report, &made);
     formulas::compare(inputs, report, &input.points, width);
     words::compare(inputs, report);
+    listings::compare(inputs, report);
     refused::compare(inputs, report);
 }
 

@@ -25,10 +25,22 @@ pub enum Kind {
     ProductLoop,
     Value,
     Cost,
+    IsBetter,
     FormulaRow,
+    /// Whether tokens are a formula, against the plain statement.
+    FormulaTest,
+    /// A token at a place, against the plain statement.
+    Token,
     Points,
+    Splitmix,
     Fingerprint,
     Bitmask,
+    /// The sums modulo 2^w of arith.rs.
+    Sums,
+    /// Against the stand-in.
+    Inverse,
+    /// The listing's text of the Rust's bank and index, and of what the table refuses.
+    Listing,
     Gate,
     Residual,
     Match,

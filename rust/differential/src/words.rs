@@ -1,4 +1,4 @@
-//! Points, fingerprints, masks, gates on rows and residuals.
+//! Points, fingerprints, masks, sums, inverses, gates on rows and residuals.
 
 use oracle::access::{self, Row};
 use oracle::inputs::Inputs;
@@ -16,11 +16,45 @@ pub fn compare(inputs: &mut Inputs, report: &mut Report) {
     let width = inputs.below(70) as u32;
     let mask = access::bitmask(width);
     report.compare(Kind::Bitmask, &width, &lent::bitmask(width), &mask);
+    sums(inputs, report);
+    draws(inputs, report);
     let width = any_width(inputs);
     let rows = [random_row(inputs, width), random_row(inputs, width)];
     for gate in 0..5 {
         gates(inputs, report, rows, gate, width);
     }
+}
+
+/// Sums modulo 2^w, and the inverse of an odd word.
+fn sums(inputs: &mut Inputs, report: &mut Report) {
+    let width = inputs.below(70) as u32;
+    let any = corners(width.clamp(1, 64));
+    let [a, b] = [0; 2].map(|_| match inputs.below(2) {
+        0 => inputs.one_of(&any),
+        _ => inputs.word(),
+    });
+    let ours = [
+        lent::mod_add(a, b, width),
+        lent::mod_sub(a, b, width),
+        lent::mod_mul(a, b, width),
+        lent::mod_neg(a, width),
+        lent::mod_not(a, width),
+    ];
+    let theirs = access::sums(a, b, width);
+    report.compare(Kind::Sums, &(a, b, width), &ours, &theirs);
+    let ours = (lent::reduce(a, width), lent::wrapping_mul(a, b));
+    let theirs = (a & access::bitmask(width), a.wrapping_mul(b));
+    report.compare(Kind::Sums, &(a, b, width), &ours, &theirs);
+    let (odd, bits) = (a | 1, any_width(inputs));
+    let ours = lent::mod_inverse_odd(odd, bits);
+    let theirs = access::mod_inverse_odd(odd, bits);
+    report.compare(Kind::Inverse, &(odd, bits), &ours, &theirs);
+}
+
+fn draws(inputs: &mut Inputs, report: &mut Report) {
+    let state = inputs.word();
+    let ours = lent::splitmix64(state);
+    report.compare(Kind::Splitmix, &state, &ours, &access::splitmix64(state));
 }
 
 fn points(inputs: &mut Inputs, report: &mut Report) {

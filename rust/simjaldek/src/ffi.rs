@@ -1,6 +1,7 @@
-//! The exported functions of crates/simjaldek/src/lib.rt as they are: declarations only, in that file's order.
+//! The exported functions of crates/simjaldek/src/lib.rt and the structs of crates/abi/src/lib.rt as they are: declarations only, in
+//! the order of these files.
 //!
-//! A slice goes as its pointer and its length. tests/declarations.rs compares these lines with the Rattle source.
+//! A slice goes as its pointer and its length. tests/declarations.rs compares these lines with the Rattle sources.
 
 /// An answer by numbers; all zeros beside a refusal.
 #[repr(C)]
@@ -52,6 +53,20 @@ pub struct PointsReply {
 pub struct DrawReply {
     pub state: u64,
     pub word: u64,
+}
+
+/// A token: its opcode, 255 for what is none, and its operand.
+#[repr(C)]
+pub struct TokenReply {
+    pub opcode: u32,
+    pub operand: u64,
+}
+
+/// The length of a text; 0 beside a refusal.
+#[repr(C)]
+pub struct TextReply {
+    pub refusal: u32,
+    pub length: usize,
 }
 
 extern "C" {
@@ -128,6 +143,23 @@ extern "C" {
         target_len: usize,
     ) -> Reply;
 
+    pub fn simjaldek_token_at(
+        ops: *const u8,
+        ops_len: usize,
+        operands: *const u64,
+        operands_len: usize,
+        at: usize,
+    ) -> TokenReply;
+
+    pub fn simjaldek_is_formula(
+        nv: u32,
+        count: usize,
+        ops: *const u8,
+        ops_len: usize,
+        operands: *const u64,
+        operands_len: usize,
+    ) -> u32;
+
     pub fn simjaldek_eval(
         nv: u32,
         w: u32,
@@ -166,6 +198,20 @@ extern "C" {
     pub fn simjaldek_fingerprint(row: *const u64, row_len: usize) -> WordReply;
 
     pub fn simjaldek_bitmask(w: u32) -> u64;
+
+    pub fn simjaldek_reduce(x: u64, w: u32) -> u64;
+
+    pub fn simjaldek_wrapping_mul(a: u64, b: u64) -> u64;
+
+    pub fn simjaldek_mod_add(a: u64, b: u64, w: u32) -> u64;
+
+    pub fn simjaldek_mod_sub(a: u64, b: u64, w: u32) -> u64;
+
+    pub fn simjaldek_mod_mul(a: u64, b: u64, w: u32) -> u64;
+
+    pub fn simjaldek_mod_not(v: u64, w: u32) -> u64;
+
+    pub fn simjaldek_mod_neg(v: u64, w: u32) -> u64;
 
     pub fn simjaldek_mod_inverse_odd(m: u64, k: u32) -> u64;
 
@@ -210,4 +256,11 @@ extern "C" {
     ) -> Reply;
 
     pub fn simjaldek_atom_row(rows: *const u64, rows_len: usize, count: usize, slot: u32) -> Reply;
+
+    pub fn simjaldek_write_listing(
+        out: *mut u8,
+        out_len: usize,
+        text: *const u8,
+        text_len: usize,
+    ) -> TextReply;
 }

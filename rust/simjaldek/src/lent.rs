@@ -6,7 +6,9 @@
 #![allow(unsafe_code)]
 
 use crate::ffi;
-use crate::{AtomSlot, Cost, PairSlot, Point, Product, Refusal, Row, ATOMS_MAX, ROW_WORDS};
+use crate::{
+    AtomSlot, Cost, PairSlot, Point, Product, Refusal, Row, Token, ATOMS_MAX, ROW_WORDS,
+};
 
 /// Atoms' rows: `count` atoms, sixteen words each in `rows`.
 #[derive(Clone, Copy, Debug)]
@@ -77,6 +79,9 @@ pub struct Built {
     /// Whether a new row found no place.
     pub cut: bool,
 }
+
+/// How many bytes a buffer for a listing has: the longest listing fits.
+pub const TEXT_MAX: usize = 131_072;
 
 /// The places of a work area for a limit L (0 for a bank build): 4 × (L + 479).
 pub fn work_len(limit: usize) -> usize {
@@ -236,6 +241,37 @@ pub fn build_bank(
     unless_refused(reply.refusal, reply.a as usize)
 }
 
+/// The token at a place of two arrays; [`Token::Bad`] with opcode 255 for what is none, also past the end of either.
+pub fn token_at(ops: &[u8], operands: &[u64], at: usize) -> Token {
+    // SAFETY: each pointer comes with its own slice's length; the function reads within these lengths and keeps no pointer.
+    let reply = unsafe {
+        ffi::simjaldek_token_at(
+            ops.as_ptr(),
+            ops.len(),
+            operands.as_ptr(),
+            operands.len(),
+            at,
+        )
+    };
+    Token::of(reply.opcode as u8, reply.operand)
+}
+
+/// Whether the tokens are a formula over so many variables: what refusal 6 tests. Any array may be too short.
+pub fn is_formula(num_vars: u32, formula: Tokens<'_>) -> bool {
+    // SAFETY: each pointer comes with its own slice's length; the function reads within these lengths and keeps no pointer.
+    let mark = unsafe {
+        ffi::simjaldek_is_formula(
+            num_vars,
+            formula.count,
+            formula.ops.as_ptr(),
+            formula.ops.len(),
+            formula.operands.as_ptr(),
+            formula.operands.len(),
+        )
+    };
+    mark == 1
+}
+
 /// The value of a formula modulo 2^w, with a word for each variable. Refuses 1, 2, 4, 6.
 pub fn evaluate(
     num_vars: u32,
@@ -325,6 +361,48 @@ pub fn bitmask(width: u32) -> u64 {
     unsafe { ffi::simjaldek_bitmask(width) }
 }
 
+/// x modulo 2^w; from 64 up w counts as 64, here and in the sums below.
+pub fn reduce(x: u64, width: u32) -> u64 {
+    // SAFETY: the function takes numbers only.
+    unsafe { ffi::simjaldek_reduce(x, width) }
+}
+
+/// a × b modulo 2^64.
+pub fn wrapping_mul(a: u64, b: u64) -> u64 {
+    // SAFETY: the function takes numbers only.
+    unsafe { ffi::simjaldek_wrapping_mul(a, b) }
+}
+
+/// a + b modulo 2^w.
+pub fn mod_add(a: u64, b: u64, width: u32) -> u64 {
+    // SAFETY: the function takes numbers only.
+    unsafe { ffi::simjaldek_mod_add(a, b, width) }
+}
+
+/// a - b modulo 2^w.
+pub fn mod_sub(a: u64, b: u64, width: u32) -> u64 {
+    // SAFETY: the function takes numbers only.
+    unsafe { ffi::simjaldek_mod_sub(a, b, width) }
+}
+
+/// a × b modulo 2^w.
+pub fn mod_mul(a: u64, b: u64, width: u32) -> u64 {
+    // SAFETY: the function takes numbers only.
+    unsafe { ffi::simjaldek_mod_mul(a, b, width) }
+}
+
+/// Each of the w bits turned: 2^w - 1 - v.
+pub fn mod_not(v: u64, width: u32) -> u64 {
+    // SAFETY: the function takes numbers only.
+    unsafe { ffi::simjaldek_mod_not(v, width) }
+}
+
+/// 0 - v modulo 2^w.
+pub fn mod_neg(v: u64, width: u32) -> u64 {
+    // SAFETY: the function takes numbers only.
+    unsafe { ffi::simjaldek_mod_neg(v, width) }
+}
+
 /// The number below 2^k whose product with m is 1 modulo 2^k; an even m has none, and gets 0. From 64 up k counts as 64.
 pub fn mod_inverse_odd(m: u64, k: u32) -> u64 {
     // SAFETY: the function takes numbers only.
@@ -410,4 +488,15 @@ pub fn atom_row(atoms: Atoms<'_>, slot: AtomSlot) -> Result<&[u64], Refusal> {
     };
     let place = unless_refused(reply.refusal, reply.a as usize)?;
     Ok(&atoms.rows[place..place + ROW_WORDS])
+}
+
+/// Writes what the listing program answers to a whole text into `out`, and gives its length; what the text is refused for is written
+/// there too. Refuses 4 for a buffer of less than [`TEXT_MAX`] bytes.
+pub fn write_listing(text: &[u8], out: &mut [u8]) -> Result<usize, Refusal> {
+    // SAFETY: each pointer comes with its own slice's length; the function stays within these lengths and keeps no pointer. The
+    // written slice is `&mut`, so it overlaps nothing.
+    let reply = unsafe {
+        ffi::simjaldek_write_listing(out.as_mut_ptr(), out.len(), text.as_ptr(), text.len())
+    };
+    unless_refused(reply.refusal, reply.length)
 }

@@ -35,7 +35,10 @@ mod refusal;
 mod types;
 
 pub use formula::{Formula, FormulaBuf, ParseTokenError, Token};
-pub use lent::{bitmask, mod_inverse_odd, probe_points, splitmix64};
+pub use lent::{
+    bitmask, mod_add, mod_inverse_odd, mod_mul, mod_neg, mod_not, mod_sub, probe_points, reduce,
+    splitmix64, wrapping_mul,
+};
 pub use owned::{candidates, product_search, Bank, Index};
 pub use refusal::Refusal;
 pub use types::{
@@ -50,6 +53,11 @@ fn tokens(formula: Formula<'_>) -> lent::Tokens<'_> {
         ops: formula.ops(),
         operands: formula.operands(),
     }
+}
+
+/// Whether the tokens are a formula over so many variables: what refusal 6 tests.
+pub fn is_formula(num_vars: u32, formula: Formula<'_>) -> bool {
+    lent::is_formula(num_vars, tokens(formula))
 }
 
 /// The value of a formula modulo 2^w, with a word for each variable. Refuses 1, 2, 6, and 4 for fewer words than variables.
@@ -101,4 +109,12 @@ pub fn gate_matches(
     width: u32,
 ) -> Result<bool, Refusal> {
     lent::gate_matches(a, b, target, gate.number(), width)
+}
+
+/// What the listing program writes of a text: atoms, costs, formulas and pairs, or its refusal.
+pub fn listing(text: &[u8]) -> Vec<u8> {
+    let mut out = vec![0; lent::TEXT_MAX];
+    let length = lent::write_listing(text, &mut out).expect("the buffer is long enough");
+    out.truncate(length);
+    out
 }

@@ -1,6 +1,7 @@
-//! src/ffi.rs declares what the Rattle source exports: the same functions, parameters, answers and structs, in the same order.
+//! src/ffi.rs declares what the Rattle sources export: the same functions, parameters, answers and structs, in the same order.
 
-const SOURCE: &str = include_str!("../../../crates/simjaldek/src/lib.rt");
+const FUNCTIONS: &str = include_str!("../../../crates/simjaldek/src/lib.rt");
+const STRUCTS: &str = include_str!("../../../crates/abi/src/lib.rt");
 const DECLARED: &str = include_str!("../src/ffi.rs");
 
 /// What stands between `open` and `close`, without line ends and indents, and the text after it.
@@ -61,14 +62,14 @@ fn structs(mut text: &str) -> Vec<String> {
 
 #[test]
 fn declared_functions() {
-    let exported = functions(SOURCE);
-    assert_eq!(exported.len(), SOURCE.matches("#[no_mangle]").count());
+    let exported = functions(FUNCTIONS);
+    assert_eq!(exported.len(), FUNCTIONS.matches("#[no_mangle]").count());
     assert_eq!(exported, functions(DECLARED));
 }
 
 #[test]
 fn declared_structs() {
-    let exported = structs(SOURCE);
-    assert_eq!(exported.len(), SOURCE.matches("#[repr(C)]").count());
+    let exported = structs(STRUCTS);
+    assert_eq!(exported.len(), STRUCTS.matches("#[repr(C)]").count());
     assert_eq!(exported, structs(DECLARED));
 }

@@ -1,8 +1,10 @@
 //! Words, rows, points and formulas against arithmetic written here.
 
+use simjaldek::lent::{token_at, Tokens};
 use simjaldek::{
-    bitmask, evaluate, fingerprint, gate_apply, gate_matches, gate_residual, mod_inverse_odd,
-    probe_points, probe_row, Cost, Formula, FormulaBuf, Gate, Refusal, Row, Token,
+    bitmask, evaluate, fingerprint, gate_apply, gate_matches, gate_residual, is_formula, mod_add,
+    mod_inverse_odd, mod_mul, mod_neg, mod_not, mod_sub, probe_points, probe_row, reduce,
+    wrapping_mul, Cost, Formula, FormulaBuf, Gate, Refusal, Row, Token,
 };
 
 fn splitmix64(state: &mut u64) -> u64 {
@@ -24,6 +26,25 @@ fn random_row(state: &mut u64) -> Row {
 fn bitmasks() {
     assert_eq!([0, 1, 63].map(bitmask), [0, 1, u64::MAX >> 1]);
     assert_eq!([64, 65, u32::MAX].map(bitmask), [u64::MAX; 3]);
+}
+
+#[test]
+fn sums() {
+    let mut state = 3;
+    for width in [1, 2, 8, 33, 63, 64, 65, u32::MAX] {
+        let mask = mask(width.min(64));
+        for _ in 0..100 {
+            let (a, b) = (splitmix64(&mut state), splitmix64(&mut state));
+            assert_eq!(reduce(a, width), a & mask);
+            assert_eq!(wrapping_mul(a, b), a.wrapping_mul(b));
+            assert_eq!(mod_add(a, b, width), a.wrapping_add(b) & mask);
+            assert_eq!(mod_sub(a, b, width), a.wrapping_sub(b) & mask);
+            assert_eq!(mod_mul(a, b, width), a.wrapping_mul(b) & mask);
+            assert_eq!(mod_not(a, width), !a & mask);
+            assert_eq!(mod_neg(a, width), a.wrapping_neg() & mask);
+        }
+    }
+    assert_eq!([reduce(7, 0), mod_add(1, 1, 0), mod_not(0, 0)], [0; 3]);
 }
 
 #[test]
@@ -154,6 +175,41 @@ fn texts_and_tokens() {
     assert_eq!(tokens, [Token::Bad(9, 0), Token::Bad(2, 1)]);
     assert_eq!(bad.to_string(), "? ?");
     assert_eq!(Formula::new(&[0], &[]), None);
+}
+
+#[test]
+fn tokens_at_places() {
+    for opcode in 0..=u8::MAX {
+        for operand in [0, 1, u64::MAX] {
+            let told = token_at(&[9, opcode], &[0, operand], 1);
+            match Token::of(opcode, operand) {
+                Token::Bad(..) => assert_eq!(told, Token::Bad(255, 0)),
+                token => assert_eq!(told, token),
+            }
+        }
+    }
+    assert_eq!(token_at(&[2, 2], &[0], 1), Token::Bad(255, 0));
+    assert_eq!(token_at(&[2], &[0, 0], 1), Token::Bad(255, 0));
+    assert_eq!(token_at(&[], &[], usize::MAX), Token::Bad(255, 0));
+}
+
+#[test]
+fn formulas_tested() {
+    let is = |num_vars, text: &str| {
+        let formula: FormulaBuf = text.parse().unwrap();
+        is_formula(num_vars, formula.as_formula())
+    };
+    assert!(is(1, "v0") && is(2, "v0 v1 +") && is(1, "c7 ! -"));
+    assert!(!is(1, "v1") && !is(1, "v0 +") && !is(1, "v0 v0") && !is(1, ""));
+    assert!(is(1, &format!("v0{}", " -".repeat(63))));
+    assert!(!is(1, &format!("v0{}", " -".repeat(64))));
+    // tokens past the end of an array are none
+    let short = Tokens {
+        count: 2,
+        ops: &[1, 7],
+        operands: &[0],
+    };
+    assert!(!simjaldek::lent::is_formula(1, short));
 }
 
 #[test]

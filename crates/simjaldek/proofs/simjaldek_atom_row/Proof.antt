@@ -4,7 +4,7 @@ use Prim.Native.Nat.{ℕ, _*_}
 use borrow.Author.Tests.{lt-ltb, le-ltb, le-leb, lt-leb}
 use Rattle.arith.specs.Refusal.{outcome}
 use Rattle.arith.proofs.Refusals.{refused-here, refused-later, or-here, or-later}
-use Rattle.simjaldek.specs.Reply.{placeReply}
+use Rattle.abi.specs.Reply.{numberReply}
 use borrow.Author.Needs.{needs}
 use Rattle.simjaldek.proofs.simjaldek_atom_row.Statement.{statement}
 use Rattle.simjaldek.proofs.simjaldek_atom_row.Tie as tie
@@ -16,7 +16,7 @@ returns : tie.Need-returns
 returns c =
     let e1 = c .before in
     let a = e1 .before .before .args in
-    c .refused .ensures ∙ ap (λ (n : ℕ). placeReply (outcome n (16 * a .slot))) (sym (refused-here 4 _ (lt-ltb _ _ (e1 .if1 .taken))))
+    c .refused .ensures ∙ ap (λ (n : ℕ). numberReply (outcome n (16 * a .slot))) (sym (refused-here 4 _ (lt-ltb _ _ (e1 .if1 .taken))))
 
 refused-requires-2 : tie.Need-refused-requires-2
 refused-requires-2 c κs = search needs
@@ -26,7 +26,7 @@ returns-2 c =
     let e2 = c .before in
     let e1 = e2 .before in
     let a = e1 .before .before .args in
-    c .refused2 .ensures ∙ ap (λ (n : ℕ). placeReply (outcome n (16 * a .slot))) (sym (refused-later 4 (le-ltb _ _ (e1 .if1 .left)) (refused-here 7 0 (or-here _ (lt-ltb _ _ (e2 .if2 .taken))))))
+    c .refused2 .ensures ∙ ap (λ (n : ℕ). numberReply (outcome n (16 * a .slot))) (sym (refused-later 4 (le-ltb _ _ (e1 .if1 .left)) (refused-here 7 0 (or-here _ (lt-ltb _ _ (e2 .if2 .taken))))))
 
 refused-requires-3 : tie.Need-refused-requires-3
 refused-requires-3 c κs = search needs
@@ -37,7 +37,7 @@ returns-3 c =
     let e2 = e3 .before in
     let e1 = e2 .before in
     let a = e1 .before .before .args in
-    c .refused3 .ensures ∙ ap (λ (n : ℕ). placeReply (outcome n (16 * a .slot))) (sym (refused-later 4 (le-ltb _ _ (e1 .if1 .left)) (refused-here 7 0 (or-later (le-ltb _ _ (e2 .if2 .left)) (le-leb _ _ (e3 .if3 .taken))))))
+    c .refused3 .ensures ∙ ap (λ (n : ℕ). numberReply (outcome n (16 * a .slot))) (sym (refused-later 4 (le-ltb _ _ (e1 .if1 .left)) (refused-here 7 0 (or-later (le-ltb _ _ (e2 .if2 .left)) (le-leb _ _ (e3 .if3 .taken))))))
 
 mul-answer : tie.Need-mul-answer
 mul-answer c = search needs
@@ -51,7 +51,7 @@ returns-4 c =
     let e2 = e3 .before in
     let e1 = e2 .before in
     let a = e1 .before .before .args in
-    c .answer .ensures ∙ ap (λ (n : ℕ). placeReply (outcome n (16 * a .slot))) (sym (refused-later 4 (le-ltb _ _ (e1 .if1 .left)) (refused-later 7 (or-later (le-ltb _ _ (e2 .if2 .left)) (lt-leb _ _ (e3 .if3 .left))) refl)))
+    c .answer .ensures ∙ ap (λ (n : ℕ). numberReply (outcome n (16 * a .slot))) (sym (refused-later 4 (le-ltb _ _ (e1 .if1 .left)) (refused-later 7 (or-later (le-ltb _ _ (e2 .if2 .left)) (lt-leb _ _ (e3 .if3 .left))) refl)))
 
 pub simjaldek-atom-row-spec : {M : Type 1} → statement M
 simjaldek-atom-row-spec =

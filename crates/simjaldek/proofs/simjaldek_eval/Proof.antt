@@ -1,6 +1,6 @@
 -- `simjaldek_eval` meets its contract: the code of what the call answers. Assumes nothing.
 use mathlib.Core.Path.{ap, _∙_}
-use Rattle.simjaldek.specs.Reply.{wordReply}
+use Rattle.abi.specs.Reply.{wordReply}
 use borrow.Author.Needs.{needs}
 use Rattle.simjaldek.proofs.simjaldek_eval.Statement.{statement}
 use Rattle.simjaldek.proofs.simjaldek_eval.Tie as tie

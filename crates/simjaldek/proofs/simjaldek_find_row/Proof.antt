@@ -5,9 +5,9 @@ use mathlib.Core.Option.{Option}
 use Prim.Native.Nat.{ℕ}
 use Rattle.arith.specs.Refusal.{Outcome}
 use Rattle.lookup.specs.Lookup.{found}
-use Rattle.simjaldek.specs.Slices.{rowIn, rowRefusal}
-use Rattle.simjaldek.specs.Reply.{slotReply}
-use Rattle.simjaldek.proofs.Early.{told-early, told-call, row-long}
+use Rattle.abi.specs.Slices.{rowIn, rowRefusal}
+use Rattle.abi.specs.Reply.{optionReply}
+use Rattle.abi.proofs.Early.{told-early, told-call, row-long}
 use native.Mathlib.Omega.{arith}
 use borrow.Author.Needs.{needs}
 use Rattle.simjaldek.proofs.simjaldek_find_row.Statement.{statement}
@@ -24,7 +24,7 @@ returns c =
     let r = c .before .before in
     let a = r .before .before .before .args in
     c .refused .ensures
-    ∙ told-early slotReply (rowRefusal (a .w) (a .row .now)) (found (a .w) (a .count) (a .rows .now) (rowIn (a .row .now))) (r .row-refusal .result) (r .row-refusal .ensures)
+    ∙ told-early optionReply (rowRefusal (a .w) (a .row .now)) (found (a .w) (a .count) (a .rows .now) (rowIn (a .row .now))) (r .row-refusal .result) (r .row-refusal .ensures)
     (omega (arith, c .before .if1 .taken))
 
 load-row-requires : tie.Need-load-row-requires
@@ -46,7 +46,7 @@ returns-2 c =
     let a = r .before .before .before .args in
     let call : List ℕ → Outcome (Option ℕ) = λ row. found (a .w) (a .count) (a .rows .now) row in
     c .of-slot .ensures
-    ∙ told-call slotReply (rowRefusal (a .w) (a .row .now)) (call (rowIn (a .row .now))) _ (r .row-refusal .result) (r .row-refusal .ensures) (l .before .if1 .left)
+    ∙ told-call optionReply (rowRefusal (a .w) (a .row .now)) (call (rowIn (a .row .now))) _ (r .row-refusal .result) (r .row-refusal .ensures) (l .before .if1 .left)
     (c .before .find-row .ensures ∙ ap call (l .load-row .ensures))
 
 pub simjaldek-find-row-spec : {M : Type 1} → statement M

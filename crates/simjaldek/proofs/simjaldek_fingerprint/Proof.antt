@@ -5,8 +5,8 @@ use borrow.Author.Tests.{lt-ltb, le-ltb}
 use Rattle.arith.specs.Refusal.{answer, outcome}
 use Rattle.arith.proofs.Refusals.{refused-here, refused-later}
 use Rattle.probe.specs.Fingerprint.{fingerprintOf}
-use Rattle.simjaldek.specs.Slices.{rowIn}
-use Rattle.simjaldek.specs.Reply.{wordReply}
+use Rattle.abi.specs.Slices.{rowIn}
+use Rattle.abi.specs.Reply.{wordReply}
 use borrow.Author.Needs.{needs}
 use Rattle.simjaldek.proofs.simjaldek_fingerprint.Statement.{statement}
 use Rattle.simjaldek.proofs.simjaldek_fingerprint.Tie as tie

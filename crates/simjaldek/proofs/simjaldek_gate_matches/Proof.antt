@@ -3,10 +3,10 @@ use mathlib.Core.Path.{sym, ap, _∙_}
 use mathlib.Core.List.{List}
 use Prim.Native.Nat.{ℕ}
 use Rattle.simd.specs.declared.Gate.{Gate}
-use Rattle.simd.specs.Gates.{matched}
-use Rattle.simjaldek.specs.Slices.{rowIn, gateAt, threeShort, gateRefusal}
-use Rattle.simjaldek.specs.Reply.{matchReply}
-use Rattle.simjaldek.proofs.Early.{told-early, told-call, gate-numbered, gate-long, three-long, same3}
+use Rattle.simd.specs.Gates.{gateAt, matched}
+use Rattle.abi.specs.Slices.{rowIn, threeShort, gateRefusal}
+use Rattle.abi.specs.Reply.{matchReply}
+use Rattle.abi.proofs.Early.{told-early, told-call, gate-numbered, gate-long, three-long, same3}
 use native.Mathlib.Omega.{arith}
 use borrow.Author.Needs.{needs}
 use Rattle.simjaldek.proofs.simjaldek_gate_matches.Statement.{statement}
@@ -48,8 +48,8 @@ load-row-requires-3 c κs =
     let a = r .before .before .before .before .before .args in
     omega (arith, three-long (a .a .now) (a .b .now) (a .target .now) (gate-long (a .w) _ (a .g) (sym (gate-numbered (a .w) _ (threeShort (a .a .now) (a .b .now) (a .target .now)) (a .g) (r .gate-refusal .result) (r .gate-refusal .ensures) (r .before .three-short .ensures)) ∙ c .before .before .if1 .left)) .1)
 
-gate-of-requires : tie.Need-gate-of-requires
-gate-of-requires c κs = search needs
+gate-at-requires : tie.Need-gate-at-requires
+gate-at-requires c κs = search needs
 
 gate-matches-requires : tie.Need-gate-matches-requires
 gate-matches-requires c κs = search needs
@@ -69,7 +69,7 @@ returns-2 c =
     (gate-numbered (a .w) _ (threeShort (a .a .now) (a .b .now) (a .target .now)) (a .g) (r .gate-refusal .result) (r .gate-refusal .ensures) (r .before .three-short .ensures))
     (l .before .if1 .left)
     (c .before .gate-matches .ensures
-    ∙ same3 (λ (g : Gate) (x y : List ℕ). matched g (a .w) x y third) (g .gate-of .ensures) (l .load-row .ensures) (g .before .before .load-row2 .ensures)
+    ∙ same3 (λ (g : Gate) (x y : List ℕ). matched g (a .w) x y third) (g .gate-at .ensures) (l .load-row .ensures) (g .before .before .load-row2 .ensures)
     ∙ ap (λ (z : List ℕ). matched (gateAt (a .g)) (a .w) (rowIn (a .a .now)) (rowIn (a .b .now)) z) (g .before .load-row3 .ensures))
 
 pub simjaldek-gate-matches-spec : {M : Type 1} → statement M
@@ -83,7 +83,7 @@ simjaldek-gate-matches-spec =
     load-row-requires
     load-row-requires-2
     load-row-requires-3
-    gate-of-requires
+    gate-at-requires
     gate-matches-requires
     of-match-requires
     returns-2)

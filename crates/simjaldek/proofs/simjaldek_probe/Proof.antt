@@ -4,8 +4,8 @@ use mathlib.Core.List.{List}
 use Rattle.simd.specs.declared.RowAnswer.{RowAnswer}
 use Rattle.probe.specs.declared.Point.{Point}
 use Rattle.probe.specs.FormulaRow.{probed}
-use Rattle.simjaldek.specs.Slices.{pointsIn, pointsRefusal}
-use Rattle.simjaldek.proofs.Early.{points-long, row-early, row-call}
+use Rattle.abi.specs.Slices.{pointsIn, pointsRefusal}
+use Rattle.abi.proofs.Early.{points-long, row-early, row-call}
 use native.Mathlib.Omega.{arith}
 use borrow.Author.Needs.{needs}
 use Rattle.simjaldek.proofs.simjaldek_probe.Statement.{statement}

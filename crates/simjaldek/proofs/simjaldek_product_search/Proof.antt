@@ -6,9 +6,9 @@ use Prim.Native.Nat.{ℕ}
 use Rattle.arith.specs.Refusal.{Outcome}
 use Rattle.product.specs.Trying.{Product}
 use Rattle.search.specs.Answer.{product}
-use Rattle.simjaldek.specs.Slices.{rowIn, rowRefusal}
-use Rattle.simjaldek.specs.Reply.{productReply}
-use Rattle.simjaldek.proofs.Early.{told-early, told-call, row-long}
+use Rattle.abi.specs.Slices.{rowIn, rowRefusal}
+use Rattle.abi.specs.Reply.{productReply}
+use Rattle.abi.proofs.Early.{told-early, told-call, row-long}
 use native.Mathlib.Omega.{arith}
 use borrow.Author.Needs.{needs}
 use Rattle.simjaldek.proofs.simjaldek_product_search.Statement.{statement}

@@ -2,8 +2,11 @@
 
 use oracle::inputs::Inputs;
 use oracle::spec::formulas::Handed;
-use oracle::spec::refusals::{NONE, REFUSED_LENGTH, REFUSED_VARS, REFUSED_WIDTH};
+use oracle::spec::refusals::{
+    NONE, REFUSED_FORMULA, REFUSED_LENGTH, REFUSED_VARS, REFUSED_WIDTH,
+};
 use simjaldek::lent::{self, Tokens};
+use simjaldek::Token;
 
 use super::{claimed, cut, damages, num_vars, number, widths};
 use crate::buffers::{garbage_u64, longer};
@@ -36,12 +39,38 @@ pub fn compare(inputs: &mut Inputs, report: &mut Report) {
         (cost, true),
         handed.cost_refusal(),
     );
+    if [NONE, REFUSED_FORMULA].contains(&handed.cost_refusal()) {
+        let is = handed.cost_refusal() == NONE;
+        let ours = lent::is_formula(num_vars, tokens);
+        report.compare(Kind::FormulaTest, &input, &ours, &is);
+    }
+    let at = inputs.below(tokens.count as u64 + 2) as usize;
+    let ours = lent::token_at(tokens.ops, tokens.operands, at);
+    let theirs = token_at(tokens, at);
+    report.compare(Kind::Token, &(input, at), &ours, &theirs);
     let mut points = garbage_u64(inputs, 96);
     cut(inputs, &mut points);
     let row = number(lent::probe_row(num_vars, width, &points, tokens));
     let expected = row_refusal(&handed, points.len());
     let input = (input, points.len());
     report.refusal(Kind::RefusedFormulaRow, &input, (row, true), expected);
+}
+
+/// The token at a place; what is none has opcode 255 and operand 0.
+fn token_at(tokens: Tokens<'_>, at: usize) -> Token {
+    let (op, operand) = (tokens.ops.get(at), tokens.operands.get(at));
+    match op.zip(operand) {
+        Some((0, &word)) => Token::Constant(word),
+        Some((1, &number)) => Token::Variable(number),
+        Some((2, 0)) => Token::Add,
+        Some((3, 0)) => Token::Mul,
+        Some((4, 0)) => Token::And,
+        Some((5, 0)) => Token::Or,
+        Some((6, 0)) => Token::Xor,
+        Some((7, 0)) => Token::Not,
+        Some((8, 0)) => Token::Neg,
+        _ => Token::Bad(255, 0),
+    }
 }
 
 /// The table for the row of a formula: 1, 2, 4, 6. The points stand in the words' place.

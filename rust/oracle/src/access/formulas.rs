@@ -39,6 +39,16 @@ pub fn compute_cost(formula: &Formula) -> Cost {
     cost_numbers(crate::core::expr_cost::compute_cost(&expr_of(formula)).cost)
 }
 
+/// `is_better` of expr_cost.rs.
+pub fn is_better(cost: Cost, other: Cost) -> bool {
+    let [cost, other] = [cost, other].map(|[size, products, depth]| ExprCost {
+        weighted_size: size,
+        nonlinear_mul_count: products,
+        max_depth: depth,
+    });
+    crate::core::expr_cost::is_better(&cost, &other)
+}
+
 pub(super) fn cost_numbers(cost: ExprCost) -> Cost {
     [cost.weighted_size, cost.nonlinear_mul_count, cost.max_depth]
 }

@@ -13,7 +13,7 @@ mod search;
 use super::{ProbeVals, ALL_GATES, N_PROBES};
 
 pub use bank::{bank, AtomView, Pool};
-pub use formulas::{compute_cost, eval, expr_of, Cost, Formula};
+pub use formulas::{compute_cost, eval, expr_of, is_better, Cost, Formula};
 pub use index::{index, IndexView, Inner};
 pub use search::{
     candidates, first_two_atoms, layer1, layer2, product_loop, product_loop_over, product_loops,
@@ -26,6 +26,18 @@ pub type Row = [u64; N_PROBES];
 /// `bitmask` of arith.rs.
 pub fn bitmask(width: u32) -> u64 {
     super::bitmask(width)
+}
+
+/// `mod_add`, `mod_sub`, `mod_mul`, `mod_neg` and `mod_not` of arith.rs, the last two of a.
+pub fn sums(a: u64, b: u64, width: u32) -> [u64; 5] {
+    use crate::core::arith::{mod_add, mod_mul, mod_neg, mod_not, mod_sub};
+    [
+        mod_add(a, b, width),
+        mod_sub(a, b, width),
+        mod_mul(a, b, width),
+        mod_neg(a, width),
+        mod_not(a, width),
+    ]
 }
 
 /// `mod_inverse_odd` as the original calls it: the stand-in.

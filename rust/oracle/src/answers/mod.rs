@@ -4,7 +4,7 @@ mod banks;
 mod data_file;
 mod formulas;
 mod indexes;
-mod listings;
+pub mod listings;
 mod probe;
 mod searches;
 

@@ -8,6 +8,7 @@ mod shapes;
 mod texts;
 
 use crate::answers::data_file::DataFile;
+use crate::made::banks::BankInput;
 use crate::spec::listing as spec;
 use crate::spec::refusals::NONE;
 
@@ -47,6 +48,19 @@ pub fn data_file() -> Vec<u8> {
     file.bytes
 }
 
+/// What the listing program must print of a text.
+pub fn expected(text: &[u8]) -> String {
+    match spec::refusal(text) {
+        NONE => printed::listing(&spec::numbers(text).expect("not refused")),
+        refusal => format!("refused {refusal}\n"),
+    }
+}
+
+/// The plain text that asks for a bank and an index up to a limit.
+pub fn text_for(bank: &BankInput, limit: u64) -> Vec<u8> {
+    texts::plain(&texts::numbers_of(bank, limit))
+}
+
 struct Listings {
     bytes: Vec<u8>,
 }
@@ -55,11 +69,7 @@ impl Listings {
     /// One text. Its refusal is stated by hand, and the table must say the same.
     fn case(&mut self, text: &[u8], refusal: u64) {
         assert_eq!(spec::refusal(text), refusal);
-        let printed = match refusal {
-            NONE => printed::listing(&spec::numbers(text).expect("not refused")),
-            _ => format!("refused {refusal}\n"),
-        };
-        self.put(text, &printed);
+        self.put(text, &expected(text));
     }
 
     fn put(&mut self, text: &[u8], printed: &str) {

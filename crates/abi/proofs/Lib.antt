@@ -1,0 +1,3 @@
+-- The laws of this crate, which the exported functions cite too.
+pub mod Early
+pub mod Loading

@@ -1,0 +1,3 @@
+// What the exported functions are made of.
+pub mod replies;
+pub mod slices;

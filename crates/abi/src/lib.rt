@@ -1,0 +1,69 @@
+// What crosses the C interface of the static library: the answers as structs of numbers (module `inner` has how each call's answer becomes one), and rows, points and gates
+// out of slices and numbers.
+pub mod inner;
+
+// An answer by numbers; all zeros beside a refusal.
+#[repr(C)]
+pub struct Reply {
+    pub refusal: u32,
+    pub kind: u32,
+    pub a: u32,
+    pub b: u32,
+}
+
+// A word; 0 beside a refusal.
+#[repr(C)]
+pub struct WordReply {
+    pub refusal: u32,
+    pub word: u64,
+}
+
+// A cost; zeros beside a refusal.
+#[repr(C)]
+pub struct CostReply {
+    pub refusal: u32,
+    pub size: u32,
+    pub products: u32,
+    pub depth: u32,
+}
+
+// A row; zeros beside a refusal.
+#[repr(C)]
+pub struct RowReply {
+    pub refusal: u32,
+    pub row: [u64; 16],
+}
+
+// A point's six words.
+#[repr(C)]
+pub struct PointWords {
+    pub words: [u64; 6],
+}
+
+// Sixteen points; zeros beside a refusal.
+#[repr(C)]
+pub struct PointsReply {
+    pub refusal: u32,
+    pub points: [PointWords; 16],
+}
+
+// A state of splitmix64, and the word that it gave.
+#[repr(C)]
+pub struct DrawReply {
+    pub state: u64,
+    pub word: u64,
+}
+
+// A token: its opcode, 255 for what is none, and its operand.
+#[repr(C)]
+pub struct TokenReply {
+    pub opcode: u32,
+    pub operand: u64,
+}
+
+// The length of a text; 0 beside a refusal.
+#[repr(C)]
+pub struct TextReply {
+    pub refusal: u32,
+    pub length: usize,
+}

@@ -1,0 +1,31 @@
+-- The listing of a whole text: it is fed to a reading at once. Assumes nothing.
+use mathlib.Core.Path.{_≡_, ap, _∙_}
+use mathlib.Core.List.{List}
+use Prim.Native.Nat.{ℕ, _+_, _<_, _^_}
+use native.Mathlib.Omega.{arith}
+use lib.ListN.{length}
+use Rattle.parse.specs.declared.Parse.{Parse}
+use Rattle.parse.specs.Reading.{Reads}
+use Rattle.listing.specs.declared.ListingAnswer.{ListingAnswer}
+use Rattle.listing.specs.declared.ListingAnswer.the-variants.{Written, Refused}
+use Rattle.listing.specs.Listing.{Listed}
+use Rattle.abi.specs.declared.TextReply.{TextReply}
+use Rattle.abi.specs.Reply.{textReply, refusedText}
+use Rattle.simjaldek.specs.Beside.{Texted}
+
+-- the answer by numbers
+abbrev pub answerText : ListingAnswer → TextReply
+answerText (Written n) = textReply n
+answerText (Refused number) = refusedText number
+
+pub texted : (text out out′ : List ℕ) (p : Parse) (call : ListingAnswer) (r : TextReply)
+    → (length text < 2 ^ 64 → Reads p text)
+    → Listed p out out′ call
+    → r ≡ answerText call
+    → Texted text out out′ r
+texted text out out′ p call r read l e = record {
+  short = λ h. (e ∙ ap answerText (l .short h .0), l .short h .1);
+  written = λ h k.
+      let laid = l .written h text k (read (omega (arith, k))) in
+      (e ∙ ap answerText (laid .0), laid .1);
+}
