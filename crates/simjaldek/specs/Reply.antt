@@ -7,8 +7,8 @@ use Prim.Native.Nat.{ℕ, _<_}
 use lib.ListN.{replicate}
 use Rattle.arith.specs.Refusal.{unlessRefused, Outcome, refused, answer}
 use Rattle.simd.specs.declared.RowAnswer.{RowAnswer}
-use Rattle.expr.specs.declared.Cost.{Cost}
-use Rattle.expr.specs.declared.CostAnswer.{CostAnswer}
+use Rattle.expr_cost.specs.declared.Cost.{Cost}
+use Rattle.expr_cost.specs.declared.CostAnswer.{CostAnswer}
 use Rattle.probe.specs.declared.Draw.{Draw}
 use Rattle.probe.specs.declared.Point.{Point}
 use Rattle.probe.specs.declared.Points.{Points}

@@ -3,15 +3,16 @@
 mod loaders;
 mod replies;
 
-use expr::Cost;
+use expr_cost::Cost;
 ghost use mathlib.Core.Path.{_≡_};
 ghost use Prim.Native.Nat.{_-_, _*_};
 ghost use Rattle.arith.specs.Word.{modulus};
 ghost use Rattle.arith.specs.Cong.{Inverse};
 ghost use Rattle.arith.specs.Refusal.{refuse, outcome};
 ghost use Rattle.simd.specs.Gates.{applied, residual, matched};
-ghost use Rattle.expr.specs.Answers.{evaluated, costed};
-ghost use Rattle.expr.specs.Cost.{isBetter};
+ghost use Rattle.evaluator.specs.Answers.{evaluated};
+ghost use Rattle.expr_cost.specs.Answers.{costed};
+ghost use Rattle.expr_cost.specs.Cost.{isBetter};
 ghost use Rattle.probe.specs.Points.{drawn, madePoints};
 ghost use Rattle.probe.specs.FormulaRow.{probed};
 ghost use Rattle.probe.specs.Fingerprint.{fingerprintOf};
@@ -181,7 +182,7 @@ pub extern "C" fn simjaldek_build_bank(
     replies::of_bank(built)
 }
 
-// `expr::eval`. Refuses 1, 2, 4, 6.
+// `evaluator::eval`. Refuses 1, 2, 4, 6.
 #[no_mangle]
 pub extern "C" fn simjaldek_eval(
     nv: u32,
@@ -193,10 +194,10 @@ pub extern "C" fn simjaldek_eval(
 ) -> WordReply
     ensures { λ r. ⌜ r ≡ wordReply (evaluated nv w count (now (ops .entry)) (now (operands .entry)) (now (words .entry))) ⌝ }
 {
-    replies::of_value(expr::eval(nv, w, count, ops, operands, words))
+    replies::of_value(evaluator::eval(nv, w, count, ops, operands, words))
 }
 
-// `expr::compute_cost`. Refuses 1, 4, 6.
+// `expr_cost::compute_cost`. Refuses 1, 4, 6.
 #[no_mangle]
 pub extern "C" fn simjaldek_compute_cost(
     nv: u32,
@@ -206,7 +207,7 @@ pub extern "C" fn simjaldek_compute_cost(
 ) -> CostReply
     ensures { λ r. ⌜ r ≡ costReply (costed nv count (now (ops .entry)) (now (operands .entry))) ⌝ }
 {
-    let x = expr::compute_cost(nv, count, ops, operands);
+    let x = expr_cost::compute_cost(nv, count, ops, operands);
     CostReply {
         refusal: x.refusal,
         size: x.cost.size,
