@@ -10,8 +10,8 @@ use Rattle.simd.specs.declared.RowAnswer.{RowAnswer}
 use Rattle.simd.specs.Gates.{applied, residual}
 use Rattle.expr.specs.declared.Token.{Token}
 use Rattle.expr.specs.Formula.{opcodeOf, operandOf}
-use Rattle.expr.specs.declared.Cost.{Cost}
-use Rattle.expr.specs.declared.CostAnswer.{CostAnswer}
+use Rattle.expr_cost.specs.declared.Cost.{Cost}
+use Rattle.expr_cost.specs.declared.CostAnswer.{CostAnswer}
 use Rattle.probe.specs.declared.Draw.{Draw}
 use Rattle.probe.specs.declared.Point.{Point}
 use Rattle.probe.specs.declared.Points.{Points}

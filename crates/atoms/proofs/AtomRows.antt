@@ -10,11 +10,12 @@ use Rattle.simd.specs.Gates.{gateRow}
 use Rattle.simd.specs.declared.Gate.{Gate}
 use Rattle.expr.specs.declared.Token.{Token}
 use Rattle.expr.specs.declared.Token.the-variants.{Constant, Binary, Not, Neg}
-use Rattle.expr.specs.declared.Cost.{Cost}
-use Rattle.expr.specs.declared.CostInfo.{CostInfo}
 use Rattle.expr.specs.Formula.{isFormula}
-use Rattle.expr.specs.Cost.{underUnary, leafCost, costOf}
-use Rattle.expr.proofs.Formulas.{value-constant, value-not, value-neg, value-gate, value-lt, info-constant, info-not, info-neg}
+use Rattle.evaluator.proofs.Formulas.{value-constant, value-not, value-neg, value-gate, value-lt}
+use Rattle.expr_cost.specs.declared.Cost.{Cost}
+use Rattle.expr_cost.specs.declared.CostInfo.{CostInfo}
+use Rattle.expr_cost.specs.Cost.{underUnary, leafCost, costOf}
+use Rattle.expr_cost.proofs.Formulas.{info-constant, info-not, info-neg}
 use Rattle.probe.specs.declared.Point.{Point}
 use Rattle.probe.specs.FormulaRow.{rowOf}
 use Rattle.atoms.specs.Bank.{Atom, atomOf}

@@ -10,9 +10,9 @@ use Rattle.arith.specs.Parts.{partAt, putPart, encode}
 use Rattle.arith.proofs.Parts.{getD-part, encode-part, encode-set, encode-add}
 use Rattle.expr.specs.declared.Token.{Token}
 use Rattle.expr.specs.declared.Token.the-variants.{Bad}
-use Rattle.expr.specs.declared.Cost.{Cost}
 use Rattle.expr.specs.Formula.{tokenOf, opcodeOf, operandOf, tokenAt, tokens}
 use Rattle.expr.proofs.Tokens.{token-in, token-back}
+use Rattle.expr_cost.specs.declared.Cost.{Cost}
 use Rattle.atoms.specs.Bank.{Atom, noAtom}
 use Rattle.atoms.specs.Encoding.{padTo, lengthPart, opsPart, operandsPart, costNumbers, costPart, rowPart, Arrays, spread, written}
 use Rattle.atoms.proofs.Lists.{getD-map}

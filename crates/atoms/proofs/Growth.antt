@@ -10,10 +10,10 @@ use lib.ListN.{length, getD, set, length-append, length-map, length-set, List·g
 use lib.Seq.{getD-at, getD-set-same, getD-set-other}
 use Rattle.expr.specs.declared.Token.{Token}
 use Rattle.expr.specs.declared.Token.the-variants.{Constant, Bad}
-use Rattle.expr.specs.declared.Cost.{Cost}
-use Rattle.expr.specs.Cost.{isBetter}
-use Rattle.expr.proofs.Costs.{Better, better-by}
-use Rattle.expr.proofs.Costs.Better.{size, products, depth}
+use Rattle.expr_cost.specs.declared.Cost.{Cost}
+use Rattle.expr_cost.specs.Cost.{isBetter}
+use Rattle.expr_cost.proofs.Costs.{Better, better-by}
+use Rattle.expr_cost.proofs.Costs.Better.{size, products, depth}
 use Rattle.probe.specs.declared.Point.{Point}
 use Rattle.probe.specs.FormulaRow.{rowOf}
 use Rattle.atoms.specs.Bank.{Atom, noAtom, atomOf, push, pushAll, turn, turns, built}

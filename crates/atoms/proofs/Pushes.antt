@@ -11,7 +11,7 @@ use lib.ListN.{length, getD, set, length-append, length-set}
 use Rattle.simd.specs.Gates.{sameRow}
 use Rattle.simd.proofs.Rows.{same-row-eq, same-row-of, same-row-not}
 use Rattle.expr.specs.declared.Token.{Token}
-use Rattle.expr.specs.Cost.{isBetter}
+use Rattle.expr_cost.specs.Cost.{isBetter}
 use Rattle.probe.specs.declared.Point.{Point}
 use Rattle.atoms.specs.Bank.{Atom, noAtom, atomOf, push, pushAll, turn, turns}
 

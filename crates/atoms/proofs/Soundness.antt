@@ -11,11 +11,12 @@ use lib.Seq.{getD-at}
 use Rattle.arith.proofs.Remainders.{le-or-lt}
 use Rattle.expr.specs.declared.Token.{Token}
 use Rattle.expr.specs.declared.Token.the-variants.{Not, Neg}
-use Rattle.expr.specs.declared.Cost.{Cost}
-use Rattle.expr.specs.declared.CostInfo.{CostInfo}
 use Rattle.expr.specs.Formula.{isFormula}
-use Rattle.expr.specs.Cost.{costOf}
-use Rattle.expr.proofs.Formulas.{info-constant, info-not, info-neg, tokens-le-size, constant-passes, not-passes, neg-passes}
+use Rattle.expr.proofs.Formulas.{constant-passes, not-passes, neg-passes}
+use Rattle.expr_cost.specs.declared.Cost.{Cost}
+use Rattle.expr_cost.specs.declared.CostInfo.{CostInfo}
+use Rattle.expr_cost.specs.Cost.{costOf}
+use Rattle.expr_cost.proofs.Formulas.{info-constant, info-not, info-neg, tokens-le-size}
 use Rattle.probe.specs.declared.Point.{Point}
 use Rattle.probe.proofs.FormulaRows.{length-rowOf}
 use Rattle.atoms.specs.Bank.{Atom, noAtom, atomOf, push, pushAll, turn, turns, built}

@@ -11,8 +11,8 @@ use Rattle.simd.specs.declared.Gate.the-variants.{And, Or, Xor, Add, Mul}
 use Rattle.expr.specs.declared.Token.{Token}
 use Rattle.expr.specs.declared.Token.the-variants.{Constant, Variable, Binary, Not, Neg}
 use Rattle.expr.specs.Formula.{isFormula, step, run, only, whole, orElse}
-use Rattle.expr.specs.Cost.{isNonlinear, costAlg, infoOf, costOf}
 use Rattle.expr.proofs.Formulas.{constant-passes, variable-passes, not-passes, neg-passes, gate-passes}
+use Rattle.expr_cost.specs.Cost.{isNonlinear, costAlg, infoOf, costOf}
 use Rattle.arith.specs.Lists.{countUp}
 use Rattle.atoms.specs.Stock.{constants, ofVariable, gatesOf, differenceOf, stock, firstNonzero, seedsOf, orAll}
 use Rattle.atoms.proofs.Lists.{Every, every-append, every-more, every-flatMap}

@@ -6,8 +6,8 @@ use lib.ListN.{length, getD}
 use Rattle.simd.specs.Gates.{sameRow}
 use Rattle.expr.specs.declared.Token.{Token}
 use Rattle.expr.specs.declared.Token.the-variants.{Constant}
-use Rattle.expr.specs.declared.Cost.{Cost}
-use Rattle.expr.specs.Cost.{noCost, costOf, isBetter}
+use Rattle.expr_cost.specs.declared.Cost.{Cost}
+use Rattle.expr_cost.specs.Cost.{noCost, costOf, isBetter}
 use Rattle.probe.specs.declared.Point.{Point}
 use Rattle.probe.specs.FormulaRow.{rowOf}
 

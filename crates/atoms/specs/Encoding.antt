@@ -3,8 +3,8 @@ use mathlib.Core.List.{List, [], _∷_, _++_, map}
 use Prim.Native.Nat.{ℕ, zero, suc, _*_}
 use lib.ListN.{length, drop}
 use Rattle.arith.specs.Parts.{encode}
-use Rattle.expr.specs.declared.Cost.{Cost}
 use Rattle.expr.specs.Formula.{opcodeOf, operandOf}
+use Rattle.expr_cost.specs.declared.Cost.{Cost}
 use Rattle.atoms.specs.Bank.{Atom}
 
 -- the first s of l, with d in the places that l does not have: always s elements

@@ -7,7 +7,7 @@ use lib.ListN.{length, getD}
 use Rattle.expr.specs.declared.Token.{Token}
 use Rattle.expr.specs.declared.Token.the-variants.{Constant, Not, Neg}
 use Rattle.expr.specs.Formula.{isFormula}
-use Rattle.expr.specs.Cost.{costOf}
+use Rattle.expr_cost.specs.Cost.{costOf}
 use Rattle.probe.specs.declared.Point.{Point}
 use Rattle.probe.specs.FormulaRow.{rowOf}
 use Rattle.atoms.specs.Bank.{Atom, noAtom, pushAll, turns}

@@ -1,6 +1,6 @@
 // Lines about formulas. data/formulas.txt tells what stands in them.
 use crate::check::narrow;
-use expr::Value;
+use evaluator::Value;
 ghost use mathlib.Core.Path.{_≡_};
 ghost use Prim.Native.Nat.{_+_, _*_, _≤_, _<_};
 ghost use lib.ListN.{length};
@@ -94,7 +94,7 @@ fn value_is(
 {
     let w = narrow(line[2]);
     let to = from + nv;
-    let v = expr::eval(nv as u32, w, count, ops, operands, &line[from..to]);
+    let v = evaluator::eval(nv as u32, w, count, ops, operands, &line[from..to]);
     match v {
         Value::Word(word) => word == line[to],
         Value::Refused(_) => false,
@@ -106,7 +106,7 @@ fn cost_is(line: &[u64], count: usize, ops: &[u8], operands: &[u64], from: usize
     requires { ⌜ (1 < length (now line)) × (from + 3 ≤ length (now line)) ⌝ }
 {
     let nv = narrow(line[1]);
-    let r = expr::compute_cost(nv, count, ops, operands);
+    let r = expr_cost::compute_cost(nv, count, ops, operands);
     if r.refusal != 0 {
         return false;
     }
@@ -165,14 +165,14 @@ pub fn refusal_same(line: &[u64]) -> bool {
 fn cost_refusal_is(line: &[u64], ops: &[u8], operands: &[u64], refusal: u64) -> bool
     requires { ⌜ 9 ≤ length (now line) ⌝ }
 {
-    let r = expr::compute_cost(narrow(line[1]), line[3] as usize, ops, operands);
+    let r = expr_cost::compute_cost(narrow(line[1]), line[3] as usize, ops, operands);
     r.refusal as u64 == refusal
 }
 
 fn value_refusal_is(line: &[u64], ops: &[u8], operands: &[u64], words: &[u64], refusal: u64) -> bool
     requires { ⌜ 9 ≤ length (now line) ⌝ }
 {
-    let v = expr::eval(
+    let v = evaluator::eval(
         narrow(line[1]),
         narrow(line[2]),
         line[3] as usize,

@@ -13,11 +13,13 @@ use Rattle.simd.specs.Gates.{gateRow}
 use Rattle.simd.specs.declared.Gate.{Gate}
 use Rattle.expr.specs.declared.Token.{Token}
 use Rattle.expr.specs.declared.Token.the-variants.{Constant, Variable, Binary, Not, Neg}
-use Rattle.expr.specs.declared.Cost.{Cost}
-use Rattle.expr.specs.declared.CostInfo.{CostInfo}
 use Rattle.expr.specs.Formula.{opcodeOf, operandOf, isFormula}
-use Rattle.expr.specs.Cost.{underUnary, underGate, isNonlinear, infoUnary, infoOf, costOf, Roomy}
-use Rattle.expr.proofs.Formulas.{value-variable, info-constant, info-variable, info-not, info-neg, info-gate, cost-roomy, variable-passes, neg-passes}
+use Rattle.expr.proofs.Formulas.{variable-passes, neg-passes}
+use Rattle.evaluator.proofs.Formulas.{value-variable}
+use Rattle.expr_cost.specs.declared.Cost.{Cost}
+use Rattle.expr_cost.specs.declared.CostInfo.{CostInfo}
+use Rattle.expr_cost.specs.Cost.{underUnary, underGate, isNonlinear, infoUnary, infoOf, costOf, Roomy}
+use Rattle.expr_cost.proofs.Formulas.{info-constant, info-variable, info-not, info-neg, info-gate, cost-roomy}
 use Rattle.probe.specs.declared.Point.{Point}
 use Rattle.probe.specs.FormulaRow.{rowOf}
 use Rattle.probe.proofs.FormulaRows.{length-rowOf, getD-rowOf}

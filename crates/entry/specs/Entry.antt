@@ -9,7 +9,7 @@ use Rattle.simd.specs.declared.Gate.{Gate}
 use Rattle.expr.specs.declared.Token.{Token}
 use Rattle.expr.specs.declared.Token.the-variants.{Constant, Binary, Not, Neg}
 use Rattle.expr.specs.Formula.{opcodeOf, operandOf, isFormula}
-use Rattle.expr.specs.Cost.{leafCost, infoOf, Roomy}
+use Rattle.expr_cost.specs.Cost.{leafCost, infoOf, Roomy}
 use Rattle.probe.specs.declared.Point.{Point}
 use Rattle.atoms.specs.Bank.{Atom, atomOf}
 use Rattle.atoms.specs.Encoding.{padTo, opsPart, operandsPart}

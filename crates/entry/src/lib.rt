@@ -1,7 +1,7 @@
 // Atoms by value: a formula of at most six tokens with its cost and its row; the stock of formulas by a cursor; the seeds.
 pub mod inner;
 
-use expr::Cost;
+use expr_cost::Cost;
 use simd::ROW_WORDS;
 ghost use mathlib.Core.Path.{_≡_};
 ghost use Rattle.atoms.specs.Stock.{orAll};

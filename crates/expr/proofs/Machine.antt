@@ -12,9 +12,8 @@ use Rattle.arith.specs.Refusal.{outsideOf}
 use Rattle.arith.proofs.Refusals.{true-not-false, within}
 use Rattle.expr.specs.declared.Token.{Token}
 use Rattle.expr.specs.declared.Token.the-variants.{Constant, Variable, Binary, Not, Neg, Bad}
-use Rattle.expr.specs.Formula.{Alg, step, run, only, whole, Mark, markAlg, isSome, leavesOne, known, allKnown, isFormula}
+use Rattle.expr.specs.Formula.{Alg, step, run, only, whole, Mark, markAlg, isSome, leavesOne, known, allKnown, isFormula, arity}
 use Rattle.expr.specs.Formula.Mark.{mark}
-use Rattle.expr.specs.Span.{arity}
 
 pub none≢some : {A : Type 0} {a : A} → _≡_ {A = Option A} none (some a) → ⊥
 none≢some {a} e = let z : _≡_ {A = ℕ} 0 1 = cc in omega arith

@@ -9,8 +9,7 @@ use lib.Dec.{eqb, ltb}
 use lib.ListN.{drop, drop-of-length-le}
 use Rattle.arith.specs.Refusal.{outsideOf}
 use Rattle.expr.specs.declared.Token.{Token}
-use Rattle.expr.specs.Formula.{tokenAt, tokens, known, isFormula}
-use Rattle.expr.specs.Span.{arity}
+use Rattle.expr.specs.Formula.{tokenAt, tokens, known, isFormula, arity}
 use Rattle.expr.proofs.Tokens.{tokens-length, tokens-next}
 use Rattle.expr.proofs.Machine.{passes, passes-unknown, passes-low, passes-ok, passes-end, formula-outside, formula-inside}
 

@@ -142,7 +142,7 @@ tokens-cons zero o k ops operands = ap (λ (t : Token). t ∷ []) (token-in (o �
 tokens-cons (suc n) o k ops operands = ap₂ (λ (l : List Token) (t : Token). l ++ (t ∷ [])) (tokens-cons n o k ops operands) (token-at-suc o k ops operands n)
 
 pub tokens-back : (ts : List Token) (ops operands : List ℕ) → tokens (length ts) (map opcodeOf ts ++ ops) (map operandOf ts ++ operands) ≡ ts
-unfolding tokens map
+unfolding tokens
 tokens-back [] ops operands = refl
 tokens-back (t ∷ ts) ops operands =
     tokens-cons (length ts) (opcodeOf t) (operandOf t) (map opcodeOf ts ++ ops) (map operandOf ts ++ operands)

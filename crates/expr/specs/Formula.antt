@@ -2,12 +2,10 @@
 use mathlib.Core.Bool.{Bool, true, false, not, cond, _&&_}
 use mathlib.Core.List.{List, [], _∷_, _++_}
 use mathlib.Core.Option.{Option, none, some}
-use Prim.Native.Nat.{ℕ, zero, suc, _%_, _^_}
+use Prim.Native.Nat.{ℕ, zero, suc}
 use lib.Dec.{ltb}
 use lib.ListN.{length, getD}
-use Rattle.arith.specs.Word.{notOf, negOf}
 use Rattle.arith.specs.Refusal.{outsideOf}
-use Rattle.simd.specs.Gates.{gateOf}
 use Rattle.simd.specs.declared.Gate.{Gate}
 use Rattle.simd.specs.declared.Gate.the-variants.{And, Or, Xor, Add, Mul}
 use Rattle.expr.specs.declared.Token.{Token}
@@ -52,6 +50,15 @@ operandOf (Binary g) = 0
 operandOf Not = 0
 operandOf Neg = 0
 operandOf Bad = 0
+
+-- how many values a token takes
+unfoldable pub arity : Token → ℕ
+arity (Constant k) = 0
+arity (Variable i) = 0
+arity (Binary g) = 2
+arity Not = 1
+arity Neg = 1
+arity Bad = 0
 
 -- the token at a place of the two parallel arrays; past the end of either there is none, which is `Bad` too
 unfoldable pub tokenAt : List ℕ → List ℕ → ℕ → Token
@@ -144,18 +151,3 @@ allKnown nv (t ∷ ts) = known nv t && allKnown nv ts
 unfoldable pub isFormula : ℕ → List Token → Bool
 unfolding allKnown leavesOne
 isFormula nv ts = not (outsideOf 1 64 (length ts)) && (allKnown nv ts && leavesOne ts)
-
--- ---- the value
--- 01, evaluator.rs: a constant or variable is its word modulo 2^w; Not is 2^w - 1 - v; Neg and the gates as at words of w bits
-unfoldable pub valueAlg : ℕ → List ℕ → Alg ℕ
-valueAlg w words = record {
-  onConstant = λ k. k % 2 ^ w;
-  onVariable = λ i. getD words i 0 % 2 ^ w;
-  onNot = λ a. notOf (2 ^ w) a;
-  onNeg = λ a. negOf (2 ^ w) a;
-  onGate = λ g a b. gateOf g w a b;
-}
-
-unfoldable pub valueOf : ℕ → List ℕ → List Token → ℕ
-unfolding valueAlg whole orElse
-valueOf w words ts = orElse 0 (whole (valueAlg w words) ts)

@@ -1,6 +1,4 @@
 -- What the contracts of this crate, and the definitions above it, cite.
 pub mod Formula
-pub mod Cost
 pub mod Answers
 pub mod Tree
-pub mod Span

@@ -1,12 +1,10 @@
-// Formulas in postfix: their tokens, their test, value and cost. From expr.rs, evaluator.rs and expr_cost.rs.
-pub mod inner;
+// Formulas in postfix: their tokens and their test. From expr.rs.
 mod reader;
 
 use simd::Gate;
 ghost use mathlib.Core.Path.{_≡_};
-ghost use Rattle.expr.specs.Formula.{tokenOf, tokenAt, tokens, known, isFormula};
-ghost use Rattle.expr.specs.Cost.{isBetter};
-ghost use Rattle.expr.specs.Answers.{tooShort, evaluated, valueSays, refusedCost, costed};
+ghost use Rattle.expr.specs.Formula.{tokenOf, arity, tokenAt, tokens, known, isFormula};
+ghost use Rattle.expr.specs.Answers.{tooShort};
 
 // The most tokens that a formula has.
 pub const MAX_TOKENS: usize = 64;
@@ -19,30 +17,6 @@ pub enum Token {
     Not,
     Neg,
     Bad,
-}
-
-// Weighted size, nonlinear products, depth.
-pub struct Cost {
-    pub size: u32,
-    pub products: u32,
-    pub depth: u32,
-}
-
-// A cost, with the mark whether a variable stands in the formula.
-pub struct CostInfo {
-    pub cost: Cost,
-    pub varies: bool,
-}
-
-// A cost, or zeros beside the refusal.
-pub struct CostAnswer {
-    pub refusal: u32,
-    pub cost: Cost,
-}
-
-pub enum Value {
-    Word(u64),
-    Refused(u32),
 }
 
 // The token at a place, `Bad` past the end of either array: what a reader that stands there reads next.
@@ -76,6 +50,34 @@ fn token_of(opcode: u8, operand: u64) -> Token
     }
 }
 
+// Whether a token may stand in a formula over nv variables.
+fn is_known(t: Token, nv: u32) -> bool
+    ensures { λ r. ⌜ r ≡ known nv t ⌝ }
+{
+    match t {
+        Token::Constant(_) => true,
+        Token::Variable(i) => i < nv as u64,
+        Token::Binary(_) => true,
+        Token::Not => true,
+        Token::Neg => true,
+        Token::Bad => false,
+    }
+}
+
+// How many values a token takes.
+fn takes(t: Token) -> usize
+    ensures { λ r. ⌜ r ≡ arity t ⌝ }
+{
+    match t {
+        Token::Constant(_) => 0,
+        Token::Variable(_) => 0,
+        Token::Binary(_) => 2,
+        Token::Not => 1,
+        Token::Neg => 1,
+        Token::Bad => 0,
+    }
+}
+
 // Whether the first `count` tokens are a formula over nv variables: 1 to 64 of them, all known, no operand missing, one value left.
 pub fn is_formula(nv: u32, count: usize, ops: &[u8], operands: &[u64]) -> bool
     ensures { λ r. ⌜ r ≡ isFormula nv (tokens count (now (ops .entry)) (now (operands .entry))) ⌝ }
@@ -91,10 +93,10 @@ pub fn is_formula(nv: u32, count: usize, ops: &[u8], operands: &[u64]) -> bool
     while i < count {
         let t = token_at(ops, operands, i);
         i += 1;
-        if !inner::is_known(t, nv) {
+        if !is_known(t, nv) {
             return false;
         }
-        let taken = inner::takes(t);
+        let taken = takes(t);
         if depth < taken {
             return false;
         }
@@ -111,75 +113,4 @@ pub fn too_short(count: usize, ops: &[u8], operands: &[u64]) -> bool
         return true;
     }
     operands.len() < count
-}
-
-// The value of a formula at the given words, modulo 2^w. Refuses 1, 2, 4, 6.
-pub fn eval(nv: u32, w: u32, count: usize, ops: &[u8], operands: &[u64], words: &[u64]) -> Value
-    ensures { λ r. ⌜ valueSays r ≡ evaluated nv w count (now (ops .entry)) (now (operands .entry)) (now (words .entry)) ⌝ }
-{
-    if arith::outside(nv, 1, 6) {
-        return Value::Refused(1);
-    }
-    if arith::outside(w, 1, 64) {
-        return Value::Refused(2);
-    }
-    if too_short(count, ops, operands) {
-        return Value::Refused(4);
-    }
-    if words.len() < nv as usize {
-        return Value::Refused(4);
-    }
-    if is_formula(nv, count, ops, operands) {
-        Value::Word(inner::eval_tokens(w, count, ops, operands, words))
-    } else {
-        Value::Refused(6)
-    }
-}
-
-// The cost of a formula. Refuses 1, 4, 6.
-pub fn compute_cost(nv: u32, count: usize, ops: &[u8], operands: &[u64]) -> CostAnswer
-    ensures { λ r. ⌜ r ≡ costed nv count (now (ops .entry)) (now (operands .entry)) ⌝ }
-{
-    if arith::outside(nv, 1, 6) {
-        return cost_refused(1);
-    }
-    if too_short(count, ops, operands) {
-        return cost_refused(4);
-    }
-    if is_formula(nv, count, ops, operands) {
-        let whole = inner::cost_before(ops, operands, count);
-        let cost = whole.info.cost;
-        CostAnswer { refusal: 0, cost }
-    } else {
-        cost_refused(6)
-    }
-}
-
-fn cost_refused(number: u32) -> CostAnswer
-    ensures { λ r. ⌜ r ≡ refusedCost number ⌝ }
-{
-    let cost = Cost {
-        size: 0,
-        products: 0,
-        depth: 0,
-    };
-    CostAnswer {
-        refusal: number,
-        cost,
-    }
-}
-
-impl Cost {
-    // Strictly smaller in (size, products, depth), first difference decides.
-    pub fn is_better(self, other: Cost) -> bool
-        ensures { λ r. ⌜ r ≡ isBetter self other ⌝ }
-    {
-        if self.size != other.size {
-            return self.size < other.size;
-        }
-        if self.products != other.products {
-            return self.products < other.products;
-        }
-        self.depth < other.depth
-    }
 }

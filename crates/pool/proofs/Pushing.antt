@@ -10,8 +10,8 @@ use lib.ListN.{length, getD, set, drop, length-append, length-set, List·getD-ap
 use lib.Seq.{getD-at, getD-set-same, getD-set-other}
 use Rattle.arith.specs.Parts.{partAt, putPart, encode}
 use Rattle.arith.proofs.Parts.{getD-part, encode-same}
-use Rattle.expr.specs.declared.Cost.{Cost}
-use Rattle.expr.specs.Cost.{isBetter}
+use Rattle.expr_cost.specs.declared.Cost.{Cost}
+use Rattle.expr_cost.specs.Cost.{isBetter}
 use Rattle.valmap.specs.Map.{Held, cleared, Hit, Miss}
 use Rattle.valmap.proofs.MapLaws.{held-empty}
 use Rattle.atoms.specs.Bank.{Atom, noAtom, push}

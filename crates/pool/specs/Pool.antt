@@ -5,8 +5,8 @@ use mathlib.Core.List.{List, [], _∷_}
 use Prim.Native.Nat.{ℕ, _+_, _*_, _≤_, _<_}
 use lib.ListN.{length, getD}
 use Rattle.arith.specs.Parts.{putPart}
-use Rattle.expr.specs.declared.Cost.{Cost}
-use Rattle.expr.specs.Cost.{isBetter}
+use Rattle.expr_cost.specs.declared.Cost.{Cost}
+use Rattle.expr_cost.specs.Cost.{isBetter}
 use Rattle.valmap.specs.Map.{Held}
 use Rattle.atoms.specs.Bank.{Atom, noAtom, push}
 use Rattle.atoms.specs.Encoding.{Arrays, written, costNumbers}

@@ -5,7 +5,7 @@ use crate::parts;
 use entry::ATOM_TOKENS;
 use entry::Entry;
 use entry::Formula;
-use expr::Cost;
+use expr_cost::Cost;
 use simd::AtomSlot;
 use simd::ROW_WORDS;
 use valmap::Lookup;

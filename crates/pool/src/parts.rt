@@ -1,7 +1,7 @@
 // One atom's part of each lent array: written into the part that is lent, and loaded by value from a slot.
 use crate::COST_NUMBERS;
 use entry::ATOM_TOKENS;
-use expr::Cost;
+use expr_cost::Cost;
 use simd::AtomSlot;
 ghost use mathlib.Core.Path.{_≡_};
 ghost use Prim.Native.Nat.{_+_, _*_, _≤_};

@@ -8,7 +8,7 @@ use Rattle.simd.specs.Gates.{gateNumber}
 use Rattle.simd.specs.declared.Gate.the-variants.{And, Or, Xor, Add, Mul}
 use Rattle.expr.specs.declared.Token.{Token}
 use Rattle.expr.specs.declared.Token.the-variants.{Constant, Variable, Binary, Not, Neg, Bad}
-use Rattle.expr.specs.declared.Cost.{Cost}
+use Rattle.expr_cost.specs.declared.Cost.{Cost}
 use Rattle.atoms.specs.Bank.{Atom}
 use Rattle.pairs.specs.Index.{Pair, Index}
 

@@ -6,11 +6,12 @@ use Prim.Native.Nat.{ℕ, _%_, _^_, _<_}
 use borrow.Author.Tests.{ltb-true}
 use lib.ListN.{length, getD}
 use Rattle.expr.specs.declared.Token.{Token}
-use Rattle.expr.specs.Formula.{orElse, isFormula, valueAlg, valueOf}
+use Rattle.expr.specs.Formula.{orElse, isFormula}
 use Rattle.expr.specs.Tree.{Tree, written, within, fold}
 use Rattle.expr.specs.Tree.Tree.{constant, variable, inverted, negated, gated}
 use Rattle.expr.proofs.Machine.{and-left, and-right}
 use Rattle.expr.proofs.Trees.{whole-tree, IsTree, formula-is-tree}
+use Rattle.evaluator.specs.Value.{valueAlg, valueOf}
 use Rattle.probe.specs.declared.Point.{Point}
 use Rattle.probe.specs.FormulaRow.{rowOf}
 

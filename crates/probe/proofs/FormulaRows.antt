@@ -5,7 +5,7 @@ use Prim.Native.Nat.{ℕ, zero, suc, _<_}
 use native.Mathlib.Omega.{arith}
 use lib.ListN.{length, getD, length-map}
 use Rattle.expr.specs.declared.Token.{Token}
-use Rattle.expr.specs.Formula.{valueOf}
+use Rattle.evaluator.specs.Value.{valueOf}
 use Rattle.probe.specs.declared.Point.{Point}
 use Rattle.probe.specs.FormulaRow.{rowOf}
 

@@ -6,8 +6,9 @@ use lib.ListN.{replicate}
 use Rattle.arith.specs.Refusal.{refuse, unlessRefused, badCount, badWidth}
 use Rattle.simd.specs.declared.RowAnswer.{RowAnswer}
 use Rattle.expr.specs.declared.Token.{Token}
-use Rattle.expr.specs.Formula.{tokens, valueOf}
+use Rattle.expr.specs.Formula.{tokens}
 use Rattle.expr.specs.Answers.{tooShort, notFormula}
+use Rattle.evaluator.specs.Value.{valueOf}
 use Rattle.probe.specs.declared.Point.{Point}
 
 -- an atom's row (01's term): the formula's value at each point. Words past the variable count are ignored: `row-alike` of proofs/Alike

@@ -3,7 +3,8 @@ use simd::RowAnswer;
 ghost use mathlib.Core.Path.{_≡_};
 ghost use mathlib.Core.Bool.{true};
 ghost use Prim.Native.Nat.{_≤_};
-ghost use Rattle.expr.specs.Formula.{tokens, isFormula, valueOf};
+ghost use Rattle.expr.specs.Formula.{tokens, isFormula};
+ghost use Rattle.evaluator.specs.Value.{valueOf};
 ghost use Rattle.probe.specs.FormulaRow.{rowOf, zeroRow, probed};
 ghost use Rattle.probe.specs.Points.{drawn, zeroPoints, probePoints, madePoints, DrawsPoint};
 ghost use Rattle.probe.specs.Fingerprint.{fingerprintOf, mixWord, finished};
@@ -153,7 +154,7 @@ fn value_at(w: u32, p: Point, count: usize, ops: &[u8], operands: &[u64]) -> u64
     ensures { λ r. ⌜ r ≡ valueOf w (p .words) (tokens count (now (ops .entry)) (now (operands .entry))) ⌝ }
 {
     let words = p.words;
-    expr::inner::eval_tokens(w, count, ops, operands, &words)
+    evaluator::inner::eval_tokens(w, count, ops, operands, &words)
 }
 
 // Point after point.

@@ -10,7 +10,7 @@ use lib.Dec.{eqb}
 use borrow.Author.Tests.{eqb-true, eq-eqb}
 use Rattle.arith.specs.Lists.{countUp, keep}
 use Rattle.simd.specs.Gates.{gateOf, gateRow}
-use Rattle.expr.specs.Cost.{infoOf}
+use Rattle.expr_cost.specs.Cost.{infoOf}
 use Rattle.solve.specs.Equation.{zerosOf, used, solves}
 use Rattle.solve.proofs.Used.{used-few}
 use Rattle.atoms.specs.Stock.{seedsOf, bankOf}

@@ -8,7 +8,7 @@ use lib.ListN.{length, getD, replicate}
 use Rattle.arith.specs.Lists.{countUp, keep}
 use Rattle.simd.specs.declared.Gate.the-variants.{And, Mul}
 use Rattle.expr.specs.declared.Token.the-variants.{Constant, Variable, Binary, Not}
-use Rattle.expr.specs.Cost.{costOf}
+use Rattle.expr_cost.specs.Cost.{costOf}
 use Rattle.solve.specs.Equation.{used, solves}
 use Rattle.atoms.specs.Bank.{Atom, noAtom}
 use Rattle.atoms.specs.Stock.{seedsOf}

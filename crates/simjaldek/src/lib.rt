@@ -10,7 +10,7 @@ use abi::TokenReply;
 use abi::WordReply;
 use abi::inner::replies;
 use abi::inner::slices;
-use expr::Cost;
+use expr_cost::Cost;
 use listing::ListingAnswer;
 ghost use mathlib.Core.Path.{_≡_};
 ghost use Prim.Native.Nat.{_+_, _-_, _*_, _%_, _^_};
@@ -19,8 +19,9 @@ ghost use Rattle.arith.specs.Cong.{Inverse};
 ghost use Rattle.arith.specs.Refusal.{refuse, outcome};
 ghost use Rattle.simd.specs.Gates.{gateAt, applied, residual, matched};
 ghost use Rattle.expr.specs.Formula.{tokenAt, tokens, isFormula};
-ghost use Rattle.expr.specs.Answers.{evaluated, costed};
-ghost use Rattle.expr.specs.Cost.{isBetter};
+ghost use Rattle.evaluator.specs.Answers.{evaluated};
+ghost use Rattle.expr_cost.specs.Answers.{costed};
+ghost use Rattle.expr_cost.specs.Cost.{isBetter};
 ghost use Rattle.probe.specs.Points.{drawn, madePoints};
 ghost use Rattle.probe.specs.FormulaRow.{probed};
 ghost use Rattle.probe.specs.Fingerprint.{fingerprintOf};
@@ -143,7 +144,7 @@ pub extern "C" fn simjaldek_is_formula(nv: u32, count: usize, ops: &[u8], operan
     replies::mark_of(expr::is_formula(nv, count, ops, operands))
 }
 
-// `expr::eval`. Refuses 1, 2, 4, 6.
+// `evaluator::eval`. Refuses 1, 2, 4, 6.
 #[no_mangle]
 pub extern "C" fn simjaldek_eval(
     nv: u32,
@@ -155,10 +156,10 @@ pub extern "C" fn simjaldek_eval(
 ) -> WordReply
     ensures { λ r. ⌜ r ≡ wordReply (evaluated nv w count (now (ops .entry)) (now (operands .entry)) (now (words .entry))) ⌝ }
 {
-    replies::of_value(expr::eval(nv, w, count, ops, operands, words))
+    replies::of_value(evaluator::eval(nv, w, count, ops, operands, words))
 }
 
-// `expr::compute_cost`. Refuses 1, 4, 6.
+// `expr_cost::compute_cost`. Refuses 1, 4, 6.
 #[no_mangle]
 pub extern "C" fn simjaldek_compute_cost(
     nv: u32,
@@ -168,7 +169,7 @@ pub extern "C" fn simjaldek_compute_cost(
 ) -> CostReply
     ensures { λ r. ⌜ r ≡ costReply (costed nv count (now (ops .entry)) (now (operands .entry))) ⌝ }
 {
-    let x = expr::compute_cost(nv, count, ops, operands);
+    let x = expr_cost::compute_cost(nv, count, ops, operands);
     CostReply {
         refusal: x.refusal,
         size: x.cost.size,

@@ -6,8 +6,8 @@ use native.Mathlib.Omega.{arith}
 use lib.ListN.{length, getD}
 use Rattle.expr.specs.declared.Token.{Token}
 use Rattle.expr.specs.declared.Token.the-variants.{Not, Neg}
-use Rattle.expr.specs.Cost.{Roomy}
-use Rattle.expr.proofs.Formulas.{cost-roomy}
+use Rattle.expr_cost.specs.Cost.{Roomy}
+use Rattle.expr_cost.proofs.Formulas.{cost-roomy}
 use Rattle.probe.specs.declared.Point.{Point}
 use Rattle.atoms.specs.Bank.{Atom, noAtom, atomOf, push, turn}
 use Rattle.atoms.specs.Encoding.{Arrays}

@@ -1,6 +1,6 @@
 -- `entry::inner::gate_cost` meets its contract: the cost in what `under_gate` of costs with marks answers. Assumes nothing.
 use mathlib.Core.Path.{ap}
-use Rattle.expr.specs.declared.CostInfo.{CostInfo}
+use Rattle.expr_cost.specs.declared.CostInfo.{CostInfo}
 use borrow.Author.Needs.{needs}
 use Rattle.entry.proofs.inner.gate_cost.Statement.{statement}
 use Rattle.entry.proofs.inner.gate_cost.Tie as tie

@@ -2,7 +2,7 @@
 use mathlib.Core.Path.{sym, ap, _∙_}
 use mathlib.Core.Bool.{Bool, cond}
 use borrow.Author.Needs.{needs}
-use Rattle.expr.specs.Cost.{isBetter}
+use Rattle.expr_cost.specs.Cost.{isBetter}
 use Rattle.pool.specs.Pool.{texts, putText}
 use Rattle.pool.proofs.inner.replace_if_better.Statement.{statement}
 use Rattle.pool.proofs.inner.replace_if_better.Tie as tie

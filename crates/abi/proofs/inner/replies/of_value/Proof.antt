@@ -1,7 +1,7 @@
 -- `replies::of_value` meets its contract: each case has its numbers. Assumes nothing.
 use mathlib.Core.Path.{sym, ap}
-use Rattle.expr.specs.declared.Value.{Value}
-use Rattle.expr.specs.Answers.{valueSays}
+use Rattle.evaluator.specs.declared.Value.{Value}
+use Rattle.evaluator.specs.Answers.{valueSays}
 use Rattle.abi.specs.Reply.{wordReply}
 use borrow.Author.Needs.{needs}
 use Rattle.abi.proofs.inner.replies.of_value.Statement.{statement}

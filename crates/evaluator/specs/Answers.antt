@@ -1,0 +1,30 @@
+-- What `eval` answers, with the refusals of 01's table. Assumes nothing.
+use mathlib.Core.Bool.{_||_}
+use mathlib.Core.List.{List}
+use Prim.Native.Nat.{ℕ}
+use lib.Dec.{ltb}
+use lib.ListN.{length}
+use Rattle.arith.specs.Refusal.{refuse, badCount, badWidth, Outcome, refused, answer, outcome}
+use Rattle.expr.specs.Formula.{tokens}
+use Rattle.expr.specs.Answers.{tooShort, notFormula}
+use Rattle.evaluator.specs.declared.Value.{Value}
+use Rattle.evaluator.specs.declared.Value.the-variants.{Word, Refused}
+use Rattle.evaluator.specs.Value.{valueOf}
+
+-- 01, evaluator.rs, Refusals 1, 2, 4, 6. There are at least nv input words
+abbrev pub evalRefusal : ℕ → ℕ → ℕ → List ℕ → List ℕ → List ℕ → ℕ
+evalRefusal nv w count ops operands words =
+    refuse (badCount nv) 1
+    (refuse (badWidth w) 2
+    (refuse (tooShort count ops operands || ltb (length words) nv) 4
+    (refuse (notFormula nv count ops operands) 6 0)))
+
+-- what `eval` answers
+abbrev pub evaluated : ℕ → ℕ → ℕ → List ℕ → List ℕ → List ℕ → Outcome ℕ
+evaluated nv w count ops operands words =
+    outcome (evalRefusal nv w count ops operands words) (valueOf w words (tokens count ops operands))
+
+-- what each case of `Value` says
+abbrev pub valueSays : Value → Outcome ℕ
+valueSays (Word v) = answer v
+valueSays (Refused number) = refused number
