@@ -93,6 +93,6 @@ pub fn build(
     maps::inner::prepare(work, rows, job);
     let tally = trials::inner::try_gates(work, pairs, listed, rows, job);
     let n = tally.pairs;
-    order::inner::sort_order(slots, work, listed, n);
+    radix::inner::sort_order(slots, work, listed, n);
     tally
 }
