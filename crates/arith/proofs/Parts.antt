@@ -20,6 +20,11 @@ pub getD-part : (s : ℕ) (l : List ℕ) (k j : ℕ) → j < s → getD (partAt 
 unfolding partAt
 getD-part s l k j h = getD-take s (drop (s * k) l) j 0 h ∙ getD-drop (s * k) l j 0
 
+-- what the loan of the part `&l[s * k..s * k + s]` holds
+pub part-is : (s : ℕ) (l : List ℕ) (k : ℕ) → take (s * k + s - s * k) (drop (s * k) l) ≡ partAt s l k
+unfolding partAt
+part-is s l k = let e : s * k + s - s * k ≡ s = omega arith in rw e
+
 -- what the loan of the part `&mut l[s * k..s * k + s]` leaves when it is back
 pub put-is : (s : ℕ) (l : List ℕ) (k : ℕ) (xs : List ℕ) → putMid (s * k) (s * k + s - s * k) l xs ≡ putPart s l k xs
 unfolding putPart

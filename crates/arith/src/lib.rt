@@ -1,4 +1,6 @@
 // Arithmetic on words of w bits, from arith.rs. The modulus is 2^w, and 2^64 for every w above 64, so that no call refuses a width.
+pub mod inner;
+
 ghost use mathlib.Core.Path.{_≡_};
 ghost use Prim.Native.Nat.{ℕ, _+_, _-_, _*_, _%_, _^_, _≤_};
 ghost use Rattle.arith.specs.Word.{modulus, notOf, negOf, subOf};

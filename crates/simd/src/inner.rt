@@ -84,11 +84,7 @@ pub fn load_row(rows: &[u64], slot: usize) -> [u64; 16]
 {
     let base = ROW_WORDS * slot;
     let mut row = [0u64; ROW_WORDS];
-    let mut i: usize = 0;
-    while i < ROW_WORDS {
-        row[i] = rows[base + i];
-        i += 1;
-    }
+    arith::inner::copy_words(&mut row, &rows[base..base + ROW_WORDS]);
     row
 }
 
@@ -97,11 +93,7 @@ pub fn write_row(part: &mut [u64], row: [u64; 16])
     requires { ⌜ length (now part) ≡ 16 ⌝ }
     ensures { λ _. ⌜ now (part .exit) ≡ row ⌝ }
 {
-    let mut i: usize = 0;
-    while i < ROW_WORDS {
-        part[i] = row[i];
-        i += 1;
-    }
+    arith::inner::copy_words(part, &row);
 }
 
 // Whether row `slot` of lent rows is `row`, in all sixteen words. Stops at the first that differs.
