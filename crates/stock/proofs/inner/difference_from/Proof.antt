@@ -1,8 +1,8 @@
--- `entry::inner::difference_from` meets its contract: what follows in the row of i, else the next row, else nothing. Assumes nothing.
-use Rattle.entry.proofs.Walk.{difference-here, difference-next, difference-none}
+-- `stock::inner::difference_from` meets its contract: what follows in the row of i, else the next row, else nothing. Assumes nothing.
+use Rattle.stock.proofs.Walk.{difference-here, difference-next, difference-none}
 use borrow.Author.Needs.{needs}
-use Rattle.entry.proofs.inner.difference_from.Statement.{statement}
-use Rattle.entry.proofs.inner.difference_from.Tie as tie
+use Rattle.stock.proofs.inner.difference_from.Statement.{statement}
+use Rattle.stock.proofs.inner.difference_from.Tie as tie
 
 skip-requires : tie.Need-skip-requires
 skip-requires c κs = search needs

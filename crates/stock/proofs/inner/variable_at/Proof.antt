@@ -1,12 +1,13 @@
--- `entry::inner::variable_at` meets its contract, form by form. Assumes nothing.
+-- `stock::inner::variable_at` meets its contract, form by form. Assumes nothing.
 use mathlib.Core.List.{[], _∷_}
 use Rattle.expr.specs.declared.Token.the-variants.{Variable}
 use Rattle.expr.proofs.Formulas.{variable-passes}
-use Rattle.entry.proofs.Making.{extends, entry-form, variable-0, variable-1, variable-2}
+use Rattle.entry.proofs.Making.{extends}
+use Rattle.stock.proofs.Forms.{entry-form, variable-0, variable-1, variable-2}
 use native.Mathlib.Omega.{arith}
 use borrow.Author.Needs.{needs}
-use Rattle.entry.proofs.inner.variable_at.Statement.{statement}
-use Rattle.entry.proofs.inner.variable_at.Tie as tie
+use Rattle.stock.proofs.inner.variable_at.Statement.{statement}
+use Rattle.stock.proofs.inner.variable_at.Tie as tie
 
 variable-requires : tie.Need-variable-requires
 variable-requires c κs = search needs

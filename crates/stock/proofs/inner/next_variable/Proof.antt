@@ -1,9 +1,9 @@
--- `entry::inner::next_variable` meets its contract, test by test. Assumes nothing.
+-- `stock::inner::next_variable` meets its contract, test by test. Assumes nothing.
 use borrow.Author.Tests.{lt-ltb, le-ltb}
-use Rattle.entry.specs.Cursor.{nextOf}
+use Rattle.stock.specs.Cursor.{nextOf}
 use borrow.Author.Needs.{needs}
-use Rattle.entry.proofs.inner.next_variable.Statement.{statement}
-use Rattle.entry.proofs.inner.next_variable.Tie as tie
+use Rattle.stock.proofs.inner.next_variable.Statement.{statement}
+use Rattle.stock.proofs.inner.next_variable.Tie as tie
 
 add-if1 : tie.Need-add-if1
 add-if1 c = search needs

@@ -1,12 +1,13 @@
--- `entry::inner::difference_at` meets its contract: a variable, and another under Neg, under Add. Assumes nothing.
+-- `stock::inner::difference_at` meets its contract: a variable, and another under Neg, under Add. Assumes nothing.
 use mathlib.Core.List.{[], _∷_}
 use Rattle.expr.specs.declared.Token.the-variants.{Variable, Neg}
 use Rattle.expr.proofs.Formulas.{variable-passes}
-use Rattle.entry.proofs.Making.{extends, joins, variable-varies, minus-passes, minus-varies}
+use Rattle.entry.proofs.Making.{extends, joins}
+use Rattle.stock.proofs.Forms.{variable-varies, minus-passes, minus-varies}
 use native.Mathlib.Omega.{arith}
 use borrow.Author.Needs.{needs}
-use Rattle.entry.proofs.inner.difference_at.Statement.{statement}
-use Rattle.entry.proofs.inner.difference_at.Tie as tie
+use Rattle.stock.proofs.inner.difference_at.Statement.{statement}
+use Rattle.stock.proofs.inner.difference_at.Tie as tie
 
 variable-requires : tie.Need-variable-requires
 variable-requires c κs = search needs

@@ -11,8 +11,8 @@ use Rattle.expr.specs.declared.Token.{Token}
 use Rattle.expr.specs.declared.Token.the-variants as T
 use Rattle.arith.specs.Lists.{countUp}
 use Rattle.atoms.specs.Stock.{constants, ofVariable, gatesOf, differenceOf}
-use Rattle.entry.specs.declared.Cursor.{Cursor}
-use Rattle.entry.specs.declared.Cursor.the-variants.{Constant, Variable, Pair, Difference, Done}
+use Rattle.stock.specs.declared.Cursor.{Cursor}
+use Rattle.stock.specs.declared.Cursor.the-variants.{Constant, Variable, Pair, Difference, Done}
 
 -- ---- the formula at a place
 -- 01, Bank: constants 0, 1, 2, 2^w - 1

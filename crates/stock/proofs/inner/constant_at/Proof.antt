@@ -1,8 +1,8 @@
--- `entry::inner::constant_at` meets its contract, by the test. Assumes nothing.
-use Rattle.entry.proofs.Making.{constant-low, constant-high}
+-- `stock::inner::constant_at` meets its contract, by the test. Assumes nothing.
+use Rattle.stock.proofs.Forms.{constant-low, constant-high}
 use borrow.Author.Needs.{needs}
-use Rattle.entry.proofs.inner.constant_at.Statement.{statement}
-use Rattle.entry.proofs.inner.constant_at.Tie as tie
+use Rattle.stock.proofs.inner.constant_at.Statement.{statement}
+use Rattle.stock.proofs.inner.constant_at.Tie as tie
 
 constant-requires : tie.Need-constant-requires
 constant-requires c κs = search needs

@@ -1,12 +1,13 @@
--- `entry::inner::pair_at` meets its contract: the gate of two variables. Assumes nothing.
+-- `stock::inner::pair_at` meets its contract: the gate of two variables. Assumes nothing.
 use mathlib.Core.List.{[], _∷_}
 use Rattle.expr.specs.declared.Token.the-variants.{Variable}
 use Rattle.expr.proofs.Formulas.{variable-passes}
-use Rattle.entry.proofs.Making.{joins, variable-varies}
+use Rattle.entry.proofs.Making.{joins}
+use Rattle.stock.proofs.Forms.{variable-varies}
 use native.Mathlib.Omega.{arith}
 use borrow.Author.Needs.{needs}
-use Rattle.entry.proofs.inner.pair_at.Statement.{statement}
-use Rattle.entry.proofs.inner.pair_at.Tie as tie
+use Rattle.stock.proofs.inner.pair_at.Statement.{statement}
+use Rattle.stock.proofs.inner.pair_at.Tie as tie
 
 variable-requires : tie.Need-variable-requires
 variable-requires c κs = search needs

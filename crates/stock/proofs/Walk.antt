@@ -18,9 +18,9 @@ use Rattle.expr.specs.declared.Token.the-variants as T
 use Rattle.arith.specs.Lists.{countUp}
 use Rattle.atoms.specs.Stock.{constants, ofVariable, gatesOf, differenceOf, stock}
 use Rattle.atoms.proofs.Stocks.{stock-few}
-use Rattle.entry.specs.declared.Cursor.{Cursor}
-use Rattle.entry.specs.declared.Cursor.the-variants.{Constant, Variable, Pair, Difference, Done}
-use Rattle.entry.specs.Cursor.{formOf, gateAt, skipped, differenceFrom, nextOf, firstOf, isDone, WithinVariable, WithinPair, WithinDifference, Within, Stands, variablesFrom, pairsOf, pairsFrom, differencesOf, differencesFrom, restOf}
+use Rattle.stock.specs.declared.Cursor.{Cursor}
+use Rattle.stock.specs.declared.Cursor.the-variants.{Constant, Variable, Pair, Difference, Done}
+use Rattle.stock.specs.Cursor.{formOf, gateAt, skipped, differenceFrom, nextOf, firstOf, isDone, WithinVariable, WithinPair, WithinDifference, Within, Stands, variablesFrom, pairsOf, pairsFrom, differencesOf, differencesFrom, restOf}
 
 -- ---- what is left of a count
 module _ (f : ℕ → List (List Token)) where

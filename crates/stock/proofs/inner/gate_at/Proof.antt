@@ -1,8 +1,8 @@
--- `entry::inner::gate_at` meets its contract, number by number. Assumes nothing.
-use Rattle.entry.proofs.Walk.{gate-last}
+-- `stock::inner::gate_at` meets its contract, number by number. Assumes nothing.
+use Rattle.stock.proofs.Walk.{gate-last}
 use borrow.Author.Needs.{needs}
-use Rattle.entry.proofs.inner.gate_at.Statement.{statement}
-use Rattle.entry.proofs.inner.gate_at.Tie as tie
+use Rattle.stock.proofs.inner.gate_at.Statement.{statement}
+use Rattle.stock.proofs.inner.gate_at.Tie as tie
 
 returns : tie.Need-returns
 returns c = search needs

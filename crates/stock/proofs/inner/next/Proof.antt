@@ -1,12 +1,12 @@
--- `entry::inner::next` meets its contract, place by place. Assumes nothing.
+-- `stock::inner::next` meets its contract, place by place. Assumes nothing.
 use mathlib.Core.Path.{refl}
 use borrow.Author.Tests.{lt-ltb, le-ltb}
-use Rattle.entry.specs.Cursor.{nextOf}
-use Rattle.entry.proofs.Walk.{next-at, within-constant, within-variable, within-pair, within-difference}
+use Rattle.stock.specs.Cursor.{nextOf}
+use Rattle.stock.proofs.Walk.{next-at, within-constant, within-variable, within-pair, within-difference}
 use native.Mathlib.Omega.{arith}
 use borrow.Author.Needs.{needs}
-use Rattle.entry.proofs.inner.next.Statement.{statement}
-use Rattle.entry.proofs.inner.next.Tie as tie
+use Rattle.stock.proofs.inner.next.Statement.{statement}
+use Rattle.stock.proofs.inner.next.Tie as tie
 
 enum-known-at : tie.Need-enum-known-at
 enum-known-at c = search needs

@@ -1,8 +1,8 @@
--- `entry::inner::skip` meets its contract, by the test. Assumes nothing.
+-- `stock::inner::skip` meets its contract, by the test. Assumes nothing.
 use borrow.Author.Tests.{eq-eqb, ne-eqb}
 use borrow.Author.Needs.{needs}
-use Rattle.entry.proofs.inner.skip.Statement.{statement}
-use Rattle.entry.proofs.inner.skip.Tie as tie
+use Rattle.stock.proofs.inner.skip.Statement.{statement}
+use Rattle.stock.proofs.inner.skip.Tie as tie
 
 add-result : tie.Need-add-result
 add-result c = search needs

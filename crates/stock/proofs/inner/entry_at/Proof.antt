@@ -1,12 +1,12 @@
--- `entry::inner::entry_at` meets its contract, place by place. Assumes nothing.
+-- `stock::inner::entry_at` meets its contract, place by place. Assumes nothing.
 use mathlib.Core.Path.{sym, ap, _∙_}
-use Rattle.entry.specs.Cursor.{formOf}
-use Rattle.entry.proofs.Making.{entry-form, pair-form}
-use Rattle.entry.proofs.Walk.{within-variable, within-pair, within-difference}
+use Rattle.stock.specs.Cursor.{formOf}
+use Rattle.stock.proofs.Forms.{entry-form, pair-form}
+use Rattle.stock.proofs.Walk.{within-variable, within-pair, within-difference}
 use native.Mathlib.Omega.{arith}
 use borrow.Author.Needs.{needs}
-use Rattle.entry.proofs.inner.entry_at.Statement.{statement}
-use Rattle.entry.proofs.inner.entry_at.Tie as tie
+use Rattle.stock.proofs.inner.entry_at.Statement.{statement}
+use Rattle.stock.proofs.inner.entry_at.Tie as tie
 
 enum-known-at : tie.Need-enum-known-at
 enum-known-at c = search needs
