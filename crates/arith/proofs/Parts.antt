@@ -1,5 +1,5 @@
 -- Laws of parts of s elements in a flat list, one set for every s. Assumes nothing.
-use mathlib.Core.Path.{_≡_, refl, sym, ap, _∙_}
+use mathlib.Core.Path.{_≡_, sym, ap, _∙_}
 use mathlib.Core.Logic.{_⊎_, inl, inr}
 use mathlib.Core.List.{List, [], _∷_, _++_, append-assoc, append-nil}
 use Prim.Native.Nat.{ℕ, zero, suc, _+_, _-_, _*_, _≤_, _<_}
@@ -19,6 +19,11 @@ length-part s l k h = simp (length-take, length-drop) (omega arith)
 pub getD-part : (s : ℕ) (l : List ℕ) (k j : ℕ) → j < s → getD (partAt s l k) j 0 ≡ getD l (s * k + j) 0
 unfolding partAt
 getD-part s l k j h = getD-take s (drop (s * k) l) j 0 h ∙ getD-drop (s * k) l j 0
+
+-- what the loan of the part `&l[s * k..s * k + s]` holds
+pub part-is : (s : ℕ) (l : List ℕ) (k : ℕ) → take (s * k + s - s * k) (drop (s * k) l) ≡ partAt s l k
+unfolding partAt
+part-is s l k = let e : s * k + s - s * k ≡ s = omega arith in rw e
 
 -- what the loan of the part `&mut l[s * k..s * k + s]` leaves when it is back
 pub put-is : (s : ℕ) (l : List ℕ) (k : ℕ) (xs : List ℕ) → putMid (s * k) (s * k + s - s * k) l xs ≡ putPart s l k xs

@@ -1,5 +1,5 @@
 -- What each call's refusal is written with. A "refusal" is a number of 01's table "Turned back"; 0 stands for none. Assumes nothing.
-use mathlib.Core.Bool.{Bool, true, false, _||_, cond}
+use mathlib.Core.Bool.{Bool, _||_, cond}
 use Prim.Native.Nat.{ℕ}
 use lib.Dec.{ltb}
 

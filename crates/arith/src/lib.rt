@@ -1,9 +1,10 @@
 // Arithmetic on words of w bits, from arith.rs. The modulus is 2^w, and 2^64 for every w above 64, so that no call refuses a width.
+pub mod inner;
+
 ghost use mathlib.Core.Path.{_≡_};
 ghost use Prim.Native.Nat.{ℕ, _+_, _-_, _*_, _%_, _^_, _≤_};
 ghost use Rattle.arith.specs.Word.{modulus, notOf, negOf, subOf};
 ghost use Rattle.arith.specs.Cong.{Cong, Inverse};
-ghost use Rattle.arith.specs.Refusal.{outsideOf, badCount, badWidth};
 
 // The most variables of a formula, and bits of a word.
 pub const MAX_VARS: u32 = 6;
@@ -98,28 +99,4 @@ fn newton_step(m: u64, x: u64) -> u64
     ensures { λ r. ⌜ ((j : ℕ) → 1 ≤ j → j + j ≤ 64 → Cong (2 ^ j) (m * x) 1 → Cong (2 ^ (j + j)) (m * r) 1) ⌝ }
 {
     wrapping_mul(x, std::num::wrapping_sub_u64(2, wrapping_mul(m, x)))
-}
-
-// Whether n is below `low` or above `high`.
-pub fn outside(n: u32, low: u32, high: u32) -> bool
-    ensures { λ r. ⌜ r ≡ outsideOf low high n ⌝ }
-{
-    if n < low {
-        return true;
-    }
-    high < n
-}
-
-// Whether a variable count is not 1 to 6: refusal 1.
-pub fn bad_count(nv: u32) -> bool
-    ensures { λ r. ⌜ r ≡ badCount nv ⌝ }
-{
-    outside(nv, 1, MAX_VARS)
-}
-
-// Whether a width is not 1 to 64: refusal 2.
-pub fn bad_width(w: u32) -> bool
-    ensures { λ r. ⌜ r ≡ badWidth w ⌝ }
-{
-    outside(w, 1, MAX_WIDTH)
 }

@@ -6,7 +6,7 @@ use Prim.Native.Nat.{ℕ, zero, suc, _+_, _*_, _≤_, _<_}
 use native.Mathlib.Omega.{arith}
 use lib.ListN.{length, getD, set, take, drop, length-append, length-map, length-set}
 use lib.Seq.{take-suc, take-length}
-use Rattle.arith.specs.Parts.{partAt, putPart, encode}
+use Rattle.arith.specs.Parts.{partAt, putPart, encode, spread}
 use Rattle.arith.proofs.Parts.{getD-part, encode-part, encode-set, encode-add}
 use Rattle.expr.specs.declared.Token.{Token}
 use Rattle.expr.specs.declared.Token.the-variants.{Bad}
@@ -14,7 +14,7 @@ use Rattle.expr.specs.Formula.{tokenOf, opcodeOf, operandOf, tokenAt, tokens}
 use Rattle.expr.proofs.Tokens.{token-in, token-back}
 use Rattle.expr_cost.specs.declared.Cost.{Cost}
 use Rattle.atoms.specs.Bank.{Atom, noAtom}
-use Rattle.atoms.specs.Encoding.{padTo, lengthPart, opsPart, operandsPart, costNumbers, costPart, rowPart, Arrays, spread, written}
+use Rattle.atoms.specs.Encoding.{padTo, lengthPart, opsPart, operandsPart, costNumbers, costPart, rowPart, Arrays, written}
 use Rattle.atoms.proofs.Lists.{getD-map}
 
 -- ---- padding

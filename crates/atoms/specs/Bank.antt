@@ -1,5 +1,5 @@
 -- The bank as a list of atoms, in slot order. "Bank" and "atom" are 01's terms: an atom is a small formula with its cost and its row. Assumes nothing.
-use mathlib.Core.Bool.{Bool, true, false}
+use mathlib.Core.Bool.{true, false}
 use mathlib.Core.List.{List, [], _∷_, _++_, map}
 use Prim.Native.Nat.{ℕ, zero, suc}
 use lib.ListN.{length, getD}

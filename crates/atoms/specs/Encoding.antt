@@ -1,8 +1,8 @@
 -- From a list of atoms to 01's five arrays. Assumes nothing.
-use mathlib.Core.List.{List, [], _∷_, _++_, map}
-use Prim.Native.Nat.{ℕ, zero, suc, _*_}
-use lib.ListN.{length, drop}
-use Rattle.arith.specs.Parts.{encode}
+use mathlib.Core.List.{List, [], _∷_, map}
+use Prim.Native.Nat.{ℕ, zero, suc}
+use lib.ListN.{length}
+use Rattle.arith.specs.Parts.{spread}
 use Rattle.expr.specs.Formula.{opcodeOf, operandOf}
 use Rattle.expr_cost.specs.declared.Cost.{Cost}
 use Rattle.atoms.specs.Bank.{Atom}
@@ -42,10 +42,6 @@ pub record Arrays : Type 0 where
   pub operands : List ℕ
   pub costs : List ℕ
   pub rows : List ℕ
-
--- 01, From heap ..: places beyond the counts in a lent output stay unchanged
-abbrev pub spread : ℕ → (Atom → List ℕ) → List Atom → List ℕ → List ℕ
-spread s part bank old = encode part bank ++ drop (s * length bank) old
 
 -- the arrays that hold the bank, over what they held before
 abbrev pub written : List Atom → Arrays → Arrays

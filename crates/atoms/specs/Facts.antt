@@ -4,7 +4,7 @@ use mathlib.Core.Bool.{true}
 use mathlib.Core.List.{List, [], _∷_, _++_}
 use Prim.Native.Nat.{ℕ, _≤_, _<_}
 use lib.ListN.{length, getD}
-use Rattle.expr.specs.declared.Token.{Token}
+use Rattle.simd.specs.Limits.{atomsMax}
 use Rattle.expr.specs.declared.Token.the-variants.{Constant, Not, Neg}
 use Rattle.expr.specs.Formula.{isFormula}
 use Rattle.expr_cost.specs.Cost.{costOf}
@@ -27,7 +27,7 @@ pub record SoundAtom (nv w : ℕ) (points : List Point) (a : Atom) : Type 0 wher
 
 -- 01, Bank: at most 479 atoms, each of weighted size at most 6 and so of at most 6 tokens; no two share a row
 pub record SoundBank (nv w : ℕ) (points : List Point) (bank : List Atom) : Type 0 where
-  pub few : length bank ≤ 479
+  pub few : length bank ≤ atomsMax
   pub atom : (k : ℕ) → k < length bank → SoundAtom nv w points (getD bank k noAtom)
   pub size : (k : ℕ) → k < length bank → getD bank k noAtom .cost .size ≤ 6
   pub tokens : (k : ℕ) → k < length bank → length (getD bank k noAtom .form) ≤ 6

@@ -1,5 +1,5 @@
 -- The formulas of 01's bank, in 01's order, and its seeds. Assumes nothing.
-use mathlib.Core.Bool.{Bool, true, false}
+use mathlib.Core.Bool.{true, false}
 use mathlib.Core.List.{List, [], _∷_, _++_, map, flatMap}
 use Prim.Native.Nat.{ℕ, zero, suc, _-_, _^_}
 use lib.Bits.{bitOr}

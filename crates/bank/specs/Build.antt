@@ -6,6 +6,7 @@ use Prim.Native.Nat.{ℕ, _*_, _^_}
 use lib.Dec.{ltb}
 use lib.ListN.{length, take}
 use Rattle.arith.specs.Refusal.{refuse, unlessRefused, badCount, badWidth, Outcome, refused, answer, outcome}
+use Rattle.simd.specs.Limits.{atomsMax}
 use Rattle.simd.specs.Range.{reaches}
 use Rattle.probe.specs.declared.Point.{Point}
 use Rattle.atoms.specs.Stock.{bankOf}
@@ -28,12 +29,12 @@ sizesOf a work = record {
 -- 01, Turned back, 4: a lent array shorter than stated: 479 atoms, and a work area of 4 × 479
 abbrev pub tooSmall : Sizes → Bool
 tooSmall s =
-    ltb (s .lengths) 479
-    || (ltb (s .ops) (6 * 479)
-    || (ltb (s .operands) (6 * 479)
-    || (ltb (s .costs) (3 * 479)
-    || (ltb (s .rows) (16 * 479)
-    || ltb (s .work) (4 * 479)))))
+    ltb (s .lengths) atomsMax
+    || (ltb (s .ops) (6 * atomsMax)
+    || (ltb (s .operands) (6 * atomsMax)
+    || (ltb (s .costs) (3 * atomsMax)
+    || (ltb (s .rows) (16 * atomsMax)
+    || ltb (s .work) (4 * atomsMax)))))
 
 -- some point has a word not below m among its first nv
 unfoldable pub pointsReach : ℕ → ℕ → List Point → Bool

@@ -69,10 +69,10 @@ fn points_reach(points: [Point; 16], nv: usize, w: u32) -> bool
 pub fn bank_refusal(nv: u32, w: u32, points: [Point; 16], target: [u64; 16], sizes: Sizes) -> u32
     ensures { λ r. ⌜ r ≡ bankRefusal nv w points target sizes ⌝ }
 {
-    if arith::bad_count(nv) {
+    if arith::inner::bad_count(nv) {
         return 1;
     }
-    if arith::bad_width(w) {
+    if arith::inner::bad_width(w) {
         return 2;
     }
     if too_small(sizes) {

@@ -20,7 +20,8 @@ use Rattle.solve.specs.declared.inner.Solution.the-variants.{Class, Nothing}
 use Rattle.solve.specs.Solved.{IsClass, IsNone, Solved}
 use Rattle.filter.specs.declared.inner.Residue.{Residue}
 use Rattle.filter.specs.Places.{Ordered}
-use Rattle.filter.specs.Refusals.{shortPairs, tooManyPairs, wrongOrder}
+use Rattle.filter.specs.Refusals.{shortPairs, wrongOrder}
+use Rattle.simd.specs.Limits.{tooManyPairs}
 use Rattle.filter.specs.Sweeps.{inClass, Small}
 use Rattle.candidates.specs.declared.CandidatesAnswer.the-variants.{Used, NotUsed, Refused}
 use Rattle.candidates.specs.Candidates.{candidates, candidatesRefusal, Collected}

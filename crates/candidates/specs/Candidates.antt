@@ -1,6 +1,6 @@
 -- The candidates of the product filter, from its inputs alone. Assumes nothing.
 use mathlib.Core.Path.{_≡_}
-use mathlib.Core.Bool.{Bool, _||_, cond}
+use mathlib.Core.Bool.{_||_, cond}
 use mathlib.Core.List.{List, _++_}
 use mathlib.Core.Option.{Option, none, some}
 use Prim.Native.Nat.{ℕ, _^_}
@@ -10,7 +10,8 @@ use Rattle.arith.specs.Lists.{keep}
 use Rattle.arith.specs.Refusal.{refuse, unlessRefused, badWidth, Outcome, refused, answer, outcome}
 use Rattle.order.specs.Order.{firstWord, orderOf}
 use Rattle.solve.specs.Equation.{used, solves}
-use Rattle.filter.specs.Refusals.{shortPairs, tooManyPairs, wrongOrder}
+use Rattle.filter.specs.Refusals.{shortPairs, wrongOrder}
+use Rattle.simd.specs.Limits.{tooManyPairs}
 use Rattle.candidates.specs.declared.CandidatesAnswer.{CandidatesAnswer}
 use Rattle.candidates.specs.declared.CandidatesAnswer.the-variants.{Used, NotUsed, Refused}
 

@@ -19,7 +19,7 @@ pub fn candidates_refusal(
 ) -> u32
     ensures { λ r. ⌜ r ≡ candidatesRefusal w pairs (now (listed .entry)) (now (slots .entry)) p t (now (list .entry)) ⌝ }
 {
-    if arith::bad_width(w) {
+    if arith::inner::bad_width(w) {
         return 2;
     }
     if listed.len() / simd::ROW_WORDS < pairs {

@@ -1,5 +1,4 @@
 -- The laws of this crate, which the crates above cite too.
 pub mod Texts
 pub mod Making
-pub mod Walk
 pub mod SeedLaws

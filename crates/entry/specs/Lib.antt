@@ -1,4 +1,3 @@
 -- What the contracts of this crate, and the definitions above it, cite.
 pub mod Entry
-pub mod Cursor
 pub mod Seeding

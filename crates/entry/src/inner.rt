@@ -1,7 +1,7 @@
-// What the crates above call with a width, a count and a place that they have tested.
-use crate::Cursor;
+// What the crates above call with a width and formulas that they have tested.
 use crate::Entry;
 use crate::Formula;
+use crate::SEED_WORDS;
 use crate::Seeds;
 use crate::UNUSED;
 use crate::Unary;
@@ -14,26 +14,14 @@ use simd::ROW_WORDS;
 ghost use mathlib.Core.Path.{_≡_};
 ghost use mathlib.Core.List.{[], _∷_};
 ghost use Prim.Native.Nat.{_+_, _≤_, _<_};
-ghost use Rattle.expr.specs.declared.Token.the-variants.{Variable, Binary, Neg};
-ghost use Rattle.simd.specs.declared.Gate.the-variants.{Add};
+ghost use Rattle.expr.specs.declared.Token.the-variants.{Variable, Binary};
 ghost use Rattle.expr.specs.Formula.{opcodeOf};
 ghost use Rattle.expr_cost.specs.Cost.{isNonlinear, underGate, Roomy};
 ghost use Rattle.probe.specs.FormulaRow.{rowOf};
 ghost use Rattle.atoms.specs.Bank.{atomOf};
-ghost use Rattle.entry.specs.declared.Cursor.the-variants as Place;
+ghost use Rattle.atoms.specs.Stock.{orAll};
 ghost use Rattle.entry.specs.Entry.{entryOf, leafOf, unaryToken, unaryOf, unaryRow, Longer, Joined, GateText, IsConstant, Extends, UnderUnary, Joins, UnderGate};
-ghost use Rattle.entry.specs.Cursor.{Stands, constantAt, variableAt, gateAt, formOf, skipped, differenceFrom, nextOf};
-ghost use Rattle.entry.specs.Seeding.{WithSeed};
-
-// Constants of the stock, the first of which are their own numbers: 0, 1, 2.
-const CONSTANTS: u32 = 4;
-
-const OWN_NUMBERS: u32 = 3;
-
-// Forms of each variable, and gates of each pair.
-const FORMS: u32 = 3;
-
-const GATES: u32 = 5;
+ghost use Rattle.entry.specs.Seeding.{WithSeed, AreSeeds};
 
 // ---- atoms
 
@@ -225,154 +213,10 @@ pub fn under_gate(a: Entry, b: Entry, g: Gate, left: bool, right: bool, w: u32) 
     Entry { text, cost, row }
 }
 
-// ---- the stock
-
-fn gate_at(k: u32) -> Gate
-    ensures { λ r. ⌜ r ≡ gateAt k ⌝ }
-{
-    match k {
-        0 => Gate::And,
-        1 => Gate::Or,
-        2 => Gate::Xor,
-        3 => Gate::Add,
-        _ => Gate::Mul,
-    }
-}
-
-fn constant_at(w: u32, k: u32) -> Entry
-    requires { ⌜ w ≤ 64 ⌝ }
-    ensures { λ r. ⌜ IsConstant w (constantAt w k) r ⌝ }
-{
-    if k < OWN_NUMBERS {
-        constant(w, k as u64)
-    } else {
-        constant(w, arith::bitmask(w))
-    }
-}
-
-fn variable_at(w: u32, points: [Point; 16], i: u32, k: u32) -> Entry
-    requires { ⌜ (w ≤ 64) × (i < 6) ⌝ }
-    ensures { λ r. ⌜ r ≡ entryOf (atomOf w points (variableAt i k)) ⌝ }
-{
-    let v = variable(w, points, i);
-    if k == 0 {
-        return v;
-    }
-    if k == 1 {
-        return under_unary(v, Unary::Neg, w);
-    }
-    under_unary(v, Unary::Not, w)
-}
-
-fn pair_at(w: u32, points: [Point; 16], i: u32, j: u32, g: Gate) -> Entry
-    requires { ⌜ (w ≤ 64) × ((i < 6) × (j < 6)) ⌝ }
-    ensures { λ r. ⌜ r ≡ entryOf (atomOf w points (Variable i ∷ (Variable j ∷ (Binary g ∷ [])))) ⌝ }
-{
-    let a = variable(w, points, i);
-    let b = variable(w, points, j);
-    under_gate(a, b, g, true, true, w)
-}
-
-fn difference_at(w: u32, points: [Point; 16], i: u32, j: u32) -> Entry
-    requires { ⌜ (w ≤ 64) × ((i < 6) × (j < 6)) ⌝ }
-    ensures { λ r. ⌜ r ≡ entryOf (atomOf w points (Variable i ∷ (Variable j ∷ (Neg ∷ (Binary Add ∷ []))))) ⌝ }
-{
-    let a = variable(w, points, i);
-    let b = variable(w, points, j);
-    let minus = under_unary(b, Unary::Neg, w);
-    under_gate(a, minus, Gate::Add, true, true, w)
-}
-
-// The atom of the formula at a place.
-pub fn entry_at(at: Cursor, nv: u32, w: u32, points: [Point; 16]) -> Entry
-    requires { ⌜ (w ≤ 64) × Stands nv at ⌝ }
-    ensures { λ r. ⌜ r ≡ entryOf (atomOf w points (formOf w at)) ⌝ }
-{
-    match at {
-        Cursor::Constant(k) => constant_at(w, k),
-        Cursor::Variable(i, k) => variable_at(w, points, i, k),
-        Cursor::Pair(i, j, k) => pair_at(w, points, i, j, gate_at(k)),
-        Cursor::Difference(i, j) => difference_at(w, points, i, j),
-        Cursor::Done => constant(w, 0),
-    }
-}
-
-// The first difference from i and j on.
-fn difference_from(nv: u32, i: u32, j: u32) -> Cursor
-    requires { ⌜ (i < 6) × (j ≤ 6) ⌝ }
-    ensures { λ r. ⌜ r ≡ differenceFrom nv i j ⌝ }
-{
-    let at = skip(i, j);
-    if at < nv {
-        return Cursor::Difference(i, at);
-    }
-    if i + 1 < nv {
-        return Cursor::Difference(i + 1, 0);
-    }
-    Cursor::Done
-}
-
-// j, or the next where it is i.
-fn skip(i: u32, j: u32) -> u32
-    requires { ⌜ j ≤ 6 ⌝ }
-    ensures { λ r. ⌜ r ≡ skipped i j ⌝ }
-{
-    if i == j { j + 1 } else { j }
-}
-
-fn next_variable(nv: u32, i: u32, k: u32) -> Cursor
-    requires { ⌜ (i < 6) × (k < 3) ⌝ }
-    ensures { λ r. ⌜ r ≡ nextOf nv (Place.Variable i k) ⌝ }
-{
-    if k + 1 < FORMS {
-        return Cursor::Variable(i, k + 1);
-    }
-    if i + 1 < nv {
-        return Cursor::Variable(i + 1, 0);
-    }
-    Cursor::Pair(0, 0, 0)
-}
-
-fn next_pair(nv: u32, i: u32, j: u32, k: u32) -> Cursor
-    requires { ⌜ (i < 6) × ((j < 6) × (k < 5)) ⌝ }
-    ensures { λ r. ⌜ r ≡ nextOf nv (Place.Pair i j k) ⌝ }
-{
-    if k + 1 < GATES {
-        return Cursor::Pair(i, j, k + 1);
-    }
-    if j + 1 < nv {
-        return Cursor::Pair(i, j + 1, 0);
-    }
-    if i + 1 < nv {
-        return Cursor::Pair(i + 1, i + 1, 0);
-    }
-    difference_from(nv, 0, 0)
-}
-
-// The place after it.
-pub fn next(at: Cursor, nv: u32) -> Cursor
-    requires { ⌜ Stands nv at ⌝ }
-    ensures { λ r. ⌜ r ≡ nextOf nv at ⌝ }
-{
-    match at {
-        Cursor::Constant(k) => {
-            if k + 1 < CONSTANTS {
-                Cursor::Constant(k + 1)
-            } else {
-                Cursor::Variable(0, 0)
-            }
-        }
-        Cursor::Variable(i, k) => next_variable(nv, i, k),
-        Cursor::Pair(i, j, k) => next_pair(nv, i, j, k),
-        Cursor::Difference(i, j) => difference_from(nv, i, j + 1),
-        Cursor::Done => Cursor::Done,
-    }
-}
-
 // ---- the seeds
 
 // v after the seeds so far, unless it is 0 or `most` are there.
-pub fn with_seed(s: Seeds, v: u64, most: u32) -> Seeds
+fn with_seed(s: Seeds, v: u64, most: u32) -> Seeds
     requires { ⌜ (s .count ≤ most) × (most ≤ 8) ⌝ }
     ensures { λ r. ⌜ WithSeed s v most r ⌝ }
 {
@@ -390,4 +234,35 @@ pub fn with_seed(s: Seeds, v: u64, most: u32) -> Seeds
         };
     }
     s
+}
+
+// The OR of the target row, then its first seven nonzero words; zero is never among them.
+pub fn seeds_of(target: [u64; 16]) -> Seeds
+    ensures { λ r. ⌜ AreSeeds target r ⌝ }
+{
+    let none = Seeds {
+        count: 0,
+        words: [0; 8],
+    };
+    let mut s = with_seed(none, or_all(target), 1);
+    let most = s.count + SEED_WORDS;
+    let mut i: usize = 0;
+    while i < ROW_WORDS {
+        s = with_seed(s, target[i], most);
+        i += 1;
+    }
+    s
+}
+
+// From the last word to the first.
+fn or_all(target: [u64; 16]) -> u64
+    ensures { λ r. ⌜ r ≡ orAll target ⌝ }
+{
+    let mut all: u64 = 0;
+    let mut i: usize = ROW_WORDS;
+    while 0 < i {
+        i -= 1;
+        all = target[i] | all;
+    }
+    all
 }

@@ -1,12 +1,7 @@
-// Atoms by value: a formula of at most six tokens with its cost and its row; the stock of formulas by a cursor; the seeds.
+// Atoms by value: a formula of at most six tokens with its cost and its row; the seeds.
 pub mod inner;
 
 use expr_cost::Cost;
-use simd::ROW_WORDS;
-ghost use mathlib.Core.Path.{_≡_};
-ghost use Rattle.atoms.specs.Stock.{orAll};
-ghost use Rattle.entry.specs.Cursor.{firstOf, isDone};
-ghost use Rattle.entry.specs.Seeding.{AreSeeds};
 
 // The most tokens of an atom's formula.
 pub const ATOM_TOKENS: usize = 6;
@@ -35,68 +30,8 @@ pub enum Unary {
     Not,
 }
 
-// A place in the stock: constant k; form k of variable i; gate k of variables i ≤ j; variable i minus variable j.
-pub enum Cursor {
-    Constant(u32),
-    Variable(u32, u32),
-    Pair(u32, u32, u32),
-    Difference(u32, u32),
-    Done,
-}
-
 // At most eight words that are pushed as constants.
 pub struct Seeds {
     pub count: u32,
     pub words: [u64; 8],
-}
-
-// Where the stock begins.
-pub fn first() -> Cursor
-    ensures { λ r. ⌜ r ≡ firstOf ⌝ }
-{
-    Cursor::Constant(0)
-}
-
-// Whether nothing of the stock is left.
-pub fn is_done(at: Cursor) -> bool
-    ensures { λ r. ⌜ r ≡ isDone at ⌝ }
-{
-    match at {
-        Cursor::Constant(_) => false,
-        Cursor::Variable(_, _) => false,
-        Cursor::Pair(_, _, _) => false,
-        Cursor::Difference(_, _) => false,
-        Cursor::Done => true,
-    }
-}
-
-// The OR of the target row, then its first seven nonzero words; zero is never among them.
-pub fn seeds_of(target: [u64; 16]) -> Seeds
-    ensures { λ r. ⌜ AreSeeds target r ⌝ }
-{
-    let none = Seeds {
-        count: 0,
-        words: [0; 8],
-    };
-    let mut s = inner::with_seed(none, or_all(target), 1);
-    let most = s.count + SEED_WORDS;
-    let mut i: usize = 0;
-    while i < ROW_WORDS {
-        s = inner::with_seed(s, target[i], most);
-        i += 1;
-    }
-    s
-}
-
-// From the last word to the first.
-fn or_all(target: [u64; 16]) -> u64
-    ensures { λ r. ⌜ r ≡ orAll target ⌝ }
-{
-    let mut all: u64 = 0;
-    let mut i: usize = ROW_WORDS;
-    while 0 < i {
-        i -= 1;
-        all = target[i] | all;
-    }
-    all
 }

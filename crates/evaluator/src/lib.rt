@@ -13,13 +13,13 @@ pub enum Value {
 pub fn eval(nv: u32, w: u32, count: usize, ops: &[u8], operands: &[u64], words: &[u64]) -> Value
     ensures { λ r. ⌜ valueSays r ≡ evaluated nv w count (now (ops .entry)) (now (operands .entry)) (now (words .entry)) ⌝ }
 {
-    if arith::outside(nv, 1, 6) {
+    if arith::inner::outside(nv, 1, 6) {
         return Value::Refused(1);
     }
-    if arith::outside(w, 1, 64) {
+    if arith::inner::outside(w, 1, 64) {
         return Value::Refused(2);
     }
-    if expr::too_short(count, ops, operands) {
+    if expr::inner::too_short(count, ops, operands) {
         return Value::Refused(4);
     }
     if words.len() < nv as usize {

@@ -1,10 +1,10 @@
 // Formulas in postfix: their tokens and their test. From expr.rs.
+pub mod inner;
 mod reader;
 
 use simd::Gate;
 ghost use mathlib.Core.Path.{_≡_};
 ghost use Rattle.expr.specs.Formula.{tokenOf, arity, tokenAt, tokens, known, isFormula};
-ghost use Rattle.expr.specs.Answers.{tooShort};
 
 // The most tokens that a formula has.
 pub const MAX_TOKENS: usize = 64;
@@ -103,14 +103,4 @@ pub fn is_formula(nv: u32, count: usize, ops: &[u8], operands: &[u64]) -> bool
         depth = depth - taken + 1;
     }
     depth == 1
-}
-
-// Whether one of the two arrays has fewer than `count` places.
-pub fn too_short(count: usize, ops: &[u8], operands: &[u64]) -> bool
-    ensures { λ r. ⌜ r ≡ tooShort count (now (ops .entry)) (now (operands .entry)) ⌝ }
-{
-    if ops.len() < count {
-        return true;
-    }
-    operands.len() < count
 }

@@ -28,10 +28,10 @@ pub struct CostAnswer {
 pub fn compute_cost(nv: u32, count: usize, ops: &[u8], operands: &[u64]) -> CostAnswer
     ensures { λ r. ⌜ r ≡ costed nv count (now (ops .entry)) (now (operands .entry)) ⌝ }
 {
-    if arith::outside(nv, 1, 6) {
+    if arith::inner::outside(nv, 1, 6) {
         return cost_refused(1);
     }
-    if expr::too_short(count, ops, operands) {
+    if expr::inner::too_short(count, ops, operands) {
         return cost_refused(4);
     }
     if expr::is_formula(nv, count, ops, operands) {

@@ -4,6 +4,7 @@ use mathlib.Core.Bool.{Bool, true, false}
 use mathlib.Core.List.{List}
 use Prim.Native.Nat.{ℕ, _*_, _≤_, _<_}
 use lib.ListN.{length, take, getD}
+use Rattle.simd.specs.Limits.{pairsMax}
 use Rattle.order.specs.Order.{firstWord, isOrder}
 
 -- the first word of the slot at place k
@@ -12,7 +13,7 @@ wordAt rows order k = firstWord rows (getD order k 0)
 
 -- a lent order list of n slots that no refusal turns back
 pub record Ordered (n : ℕ) (rows order : List ℕ) : Type 0 where
-  pub most : n ≤ 262144
+  pub most : n ≤ pairsMax
   pub rows-fit : 16 * n ≤ length rows
   pub order-fit : n ≤ length order
   pub is : isOrder n rows (take n order) ≡ true

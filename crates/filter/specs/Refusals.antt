@@ -1,18 +1,15 @@
 -- What turns back a lent pair index: rows and order list of n pairs. Assumes nothing.
 use mathlib.Core.Bool.{Bool, not, _||_}
 use mathlib.Core.List.{List}
-use Prim.Native.Nat.{ℕ, _/_}
+use Prim.Native.Nat.{ℕ}
 use lib.Dec.{ltb}
 use lib.ListN.{length, take}
+use Rattle.simd.specs.Limits.{tooFewRows}
 use Rattle.order.specs.Order.{isOrder}
 
 -- 01, Turned back, 4: a lent array shorter than its count needs
 abbrev pub shortPairs : ℕ → List ℕ → List ℕ → Bool
-shortPairs n rows order = ltb (length rows / 16) n || ltb (length order) n
-
--- 01, Turned back, 7: more than 262,144 pairs claimed
-abbrev pub tooManyPairs : ℕ → Bool
-tooManyPairs n = ltb 262144 n
+shortPairs n rows order = tooFewRows n rows || ltb (length order) n
 
 -- 01, Turned back, 8: the order list isn't the one defined above
 abbrev pub wrongOrder : ℕ → List ℕ → List ℕ → Bool

@@ -5,9 +5,9 @@ use Prim.Native.Nat.{ℕ, _+_, _*_, _/_, _≤_}
 use native.Mathlib.Omega.{arith}
 use borrow.Author.Tests.{ltb-false}
 use lib.Dec.{ltb}
+use Rattle.simd.specs.Limits.{atomsMax, pairsMax}
 use Rattle.arith.specs.Refusal.{badWidth}
 use Rattle.arith.proofs.Refusals.{within, passed, neither, enough}
-use Rattle.pairs.specs.Encoding.{atomsMax, limitMax}
 use Rattle.index.specs.Build.{tooShort, refusalOf}
 
 pub or-last : {a b c d : Bool} (e : Bool) → a ≡ false → b ≡ false → c ≡ false → d ≡ false → e ≡ (a || (b || (c || (d || e))))
@@ -17,7 +17,7 @@ pub record Passed (w count L rows pairs pairRows order work : ℕ) : Type 0 wher
   pub width : w ≤ 64
   pub few : count ≤ atomsMax
   pub atoms : 16 * count ≤ rows
-  pub most : L ≤ limitMax
+  pub most : L ≤ pairsMax
   pub pairs-fit : 3 * L ≤ pairs
   pub rows-fit : 16 * L ≤ pairRows
   pub order-fit : L ≤ order
@@ -26,7 +26,7 @@ pub record Passed (w count L rows pairs pairRows order work : ℕ) : Type 0 wher
 pub none-refused : (w count L rows pairs pairRows order work : ℕ) → refusalOf w count L rows pairs pairRows order work ≡ 0 → Passed w count L rows pairs pairRows order work
 none-refused w count L rows pairs pairRows order work e =
     let wide = passed (badWidth w) 2 _ (omega arith) e in
-    let most = passed (ltb limitMax L) 3 _ (omega arith) (wide .1) in
+    let most = passed (ltb pairsMax L) 3 _ (omega arith) (wide .1) in
     let short = passed (tooShort count L rows pairs pairRows order work) 4 _ (omega arith) (most .1) in
     let few = passed (ltb atomsMax count) 7 0 (omega arith) (short .1) in
     let one = neither (ltb (rows / 16) count) _ (short .0) in

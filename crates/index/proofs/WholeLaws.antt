@@ -14,7 +14,7 @@ use Rattle.order.proofs.OrderLaws.{order-same}
 use Rattle.maps.specs.declared.inner.Job.{Job}
 use Rattle.trial.specs.declared.inner.Tally.{Tally}
 use Rattle.index.specs.declared.IndexAnswer.the-variants.{Built, Refused}
-use Rattle.pairs.specs.Index.{Pair, allGates, rowsOf, rowsIn, trialsOf, indexOf}
+use Rattle.pairs.specs.Index.{Pair, allGates, rowsOf, rowsIn, trialsOf}
 use Rattle.pairs.specs.Turns.{tryAll, noPairs, turnsOf}
 use Rattle.pairs.specs.Encoding.{pairPart, pairRow}
 use Rattle.index.specs.Build.{Arrays, Summary, indexRefusal, lentIndex, IndexBuilt}

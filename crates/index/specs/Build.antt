@@ -5,11 +5,12 @@ use mathlib.Core.List.{List, _++_}
 use Prim.Native.Nat.{ℕ, _+_, _/_, _<_}
 use lib.Dec.{ltb}
 use lib.ListN.{length, drop}
-use Rattle.arith.specs.Parts.{encode}
+use Rattle.simd.specs.Limits.{atomsMax, pairsMax}
+use Rattle.arith.specs.Parts.{encode, spread}
 use Rattle.arith.specs.Refusal.{refuse, unlessRefused, badWidth, Outcome, refused, answer, outcome}
 use Rattle.order.specs.Order.{orderOf}
 use Rattle.pairs.specs.Index.{Pair, Index, allGates, rowsOf, indexOf}
-use Rattle.pairs.specs.Encoding.{atomsMax, limitMax, pairPart, pairRow, spread}
+use Rattle.pairs.specs.Encoding.{pairPart, pairRow}
 use Rattle.index.specs.declared.IndexAnswer.{IndexAnswer}
 use Rattle.index.specs.declared.IndexAnswer.the-variants.{Built, Refused}
 
@@ -22,7 +23,7 @@ tooShort count L rows pairs pairRows order work =
 -- 01, Turned back: 2, 3, 4, 7 in the table's order, by the arrays' lengths
 abbrev pub refusalOf : ℕ → ℕ → ℕ → ℕ → ℕ → ℕ → ℕ → ℕ → ℕ
 refusalOf w count L rows pairs pairRows order work =
-    refuse (badWidth w) 2 (refuse (ltb limitMax L) 3 (refuse (tooShort count L rows pairs pairRows order work) 4 (refuse (ltb atomsMax count) 7 0)))
+    refuse (badWidth w) 2 (refuse (ltb pairsMax L) 3 (refuse (tooShort count L rows pairs pairRows order work) 4 (refuse (ltb atomsMax count) 7 0)))
 
 -- ---- the arrays
 -- 01, From heap ..: all n pair slots, strictly ascending by (first row word, slot)

@@ -3,7 +3,9 @@ use mathlib.Core.Path.{_≡_}
 use mathlib.Core.List.{List, _++_}
 use Prim.Native.Nat.{ℕ, _+_, _*_, _≤_}
 use lib.ListN.{length, drop}
-use Rattle.pairs.specs.Encoding.{atomsMax, limitMax, pairPart, pairRow, spread}
+use Rattle.simd.specs.Limits.{atomsMax, pairsMax}
+use Rattle.arith.specs.Parts.{spread}
+use Rattle.pairs.specs.Encoding.{pairPart, pairRow}
 use Rattle.trial.specs.declared.inner.Tally.{Tally}
 use Rattle.index.specs.Build.{orderList, lentIndex}
 
@@ -12,7 +14,7 @@ pub record Fits (w count limit : ℕ) (rows work pairs pairRows order : List ℕ
   pub width : w ≤ 64
   pub few : count ≤ atomsMax
   pub atoms : 16 * count ≤ length rows
-  pub most : limit ≤ limitMax
+  pub most : limit ≤ pairsMax
   pub pairs-fit : 3 * limit ≤ length pairs
   pub rows-fit : 16 * limit ≤ length pairRows
   pub order-fit : limit ≤ length order

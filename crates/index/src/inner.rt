@@ -6,7 +6,7 @@ use simd::PAIRS_MAX;
 use trial::inner::Tally;
 ghost use mathlib.Core.Path.{_≡_};
 ghost use Prim.Native.Nat.{_≤_};
-ghost use Rattle.pairs.specs.Encoding.{limitMax};
+ghost use Rattle.simd.specs.Limits.{pairsMax};
 ghost use Rattle.index.specs.Build.{tooShort, refusalOf};
 ghost use Rattle.index.specs.Steps.{Fits, Made};
 
@@ -23,7 +23,7 @@ fn too_short(
     order: usize,
     work: usize,
 ) -> bool
-    requires { ⌜ limit ≤ limitMax ⌝ }
+    requires { ⌜ limit ≤ pairsMax ⌝ }
     ensures { λ r. ⌜ r ≡ tooShort count limit rows pairs listed order work ⌝ }
 {
     if rows / simd::ROW_WORDS < count {
@@ -54,7 +54,7 @@ pub fn refusal_of(
 ) -> u32
     ensures { λ r. ⌜ r ≡ refusalOf w count limit rows pairs listed order work ⌝ }
 {
-    if arith::bad_width(w) {
+    if arith::inner::bad_width(w) {
         return 2;
     }
     if PAIRS_MAX < limit {
@@ -93,6 +93,6 @@ pub fn build(
     maps::inner::prepare(work, rows, job);
     let tally = trials::inner::try_gates(work, pairs, listed, rows, job);
     let n = tally.pairs;
-    order::inner::sort_order(slots, work, listed, n);
+    radix::inner::sort_order(slots, work, listed, n);
     tally
 }

@@ -5,10 +5,11 @@ use Prim.Native.Nat.{ℕ, _*_, _≤_, _<_}
 use native.Mathlib.Omega.{arith}
 use lib.ListN.{length, getD, length-map}
 use lib.Seq.{ext-getD}
+use Rattle.arith.specs.Parts.{spread}
 use Rattle.probe.specs.declared.Point.{Point}
 use Rattle.trial.specs.declared.inner.Tally.{Tally}
 use Rattle.pairs.specs.Index.{Index, allGates, rowsOf, indexOf}
-use Rattle.pairs.specs.Encoding.{spread, pairPart}
+use Rattle.pairs.specs.Encoding.{pairPart}
 use Rattle.index.specs.Build.{lentIndex}
 use Rattle.index.specs.Steps as index
 use Rattle.pairs.proofs.RowLaws.{length-rowsOf, rows-at}

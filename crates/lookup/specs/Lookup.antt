@@ -1,14 +1,14 @@
 -- Finding a row in lent bank rows, and handing one back. Assumes nothing.
-use mathlib.Core.Bool.{Bool, true, false, _||_}
+use mathlib.Core.Bool.{true, false, _||_}
 use mathlib.Core.List.{List, []}
 use mathlib.Core.Option.{Option, none, some}
-use Prim.Native.Nat.{ℕ, zero, suc, _/_, _^_}
-use lib.Dec.{leb, ltb}
-use lib.ListN.{length}
+use Prim.Native.Nat.{ℕ, zero, suc, _^_}
+use lib.Dec.{leb}
 use Rattle.arith.specs.Refusal.{refuse, unlessRefused, badWidth, Outcome, refused, answer, outcome}
 use Rattle.arith.specs.Parts.{partAt}
 use Rattle.simd.specs.Gates.{sameRow}
 use Rattle.simd.specs.Range.{reaches}
+use Rattle.simd.specs.Limits.{tooFewRows, tooManyAtoms}
 use Rattle.lookup.specs.declared.FoundRow.{FoundRow}
 use Rattle.lookup.specs.declared.FoundRow.the-variants.{At, Nothing, Refused}
 
@@ -18,17 +18,13 @@ unfolding partAt sameRow
 leastFrom rows row k zero = none
 leastFrom rows row k (suc n) = elim (sameRow (partAt 16 rows k) row) [ true ↦ some k | false ↦ leastFrom rows row (suc k) n ]
 
--- 01, Turned back, 4 and 7: rows shorter than the count needs; more than 479 atoms claimed
-abbrev pub tooFew : ℕ → List ℕ → Bool
-tooFew count rows = ltb (length rows / 16) count
-
 -- 01, Turned back: finding a row 2, 4, 5, 7
 abbrev pub findRefusal : ℕ → ℕ → List ℕ → List ℕ → ℕ
 findRefusal w count rows row =
     refuse (badWidth w) 2
-    (refuse (tooFew count rows) 4
+    (refuse (tooFewRows count rows) 4
     (refuse (reaches (2 ^ w) row) 5
-    (refuse (ltb 479 count) 7 0)))
+    (refuse (tooManyAtoms count) 7 0)))
 
 -- what `find_row` answers
 abbrev pub found : ℕ → ℕ → List ℕ → List ℕ → Outcome (Option ℕ)
@@ -43,8 +39,8 @@ foundSays (Refused number) = refused number
 -- 01, Turned back: handing back a row 4, 7 (also an atom slot that is not below its count)
 abbrev pub handRefusal : ℕ → List ℕ → ℕ → ℕ
 handRefusal count rows slot =
-    refuse (tooFew count rows) 4
-    (refuse (ltb 479 count || leb count slot) 7 0)
+    refuse (tooFewRows count rows) 4
+    (refuse (tooManyAtoms count || leb count slot) 7 0)
 
 -- 01, Turned back: the row hand-back returns an empty part when turned back
 abbrev pub handedBack : ℕ → List ℕ → ℕ → List ℕ

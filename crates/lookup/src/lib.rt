@@ -18,7 +18,7 @@ pub enum FoundRow {
 pub fn find_row(w: u32, count: usize, rows: &[u64], row: [u64; 16]) -> FoundRow
     ensures { λ r. ⌜ foundSays r ≡ found w count (now (rows .entry)) row ⌝ }
 {
-    if arith::bad_width(w) {
+    if arith::inner::bad_width(w) {
         return FoundRow::Refused(2);
     }
     if rows.len() / ROW_WORDS < count {

@@ -4,11 +4,11 @@ use valmap::Lookup;
 ghost use mathlib.Core.Path.{_≡_};
 ghost use Prim.Native.Nat.{_+_, _*_, _^_, _≤_, _<_};
 ghost use lib.ListN.{length, take, drop};
+ghost use Rattle.simd.specs.Limits.{atomsMax, pairsMax};
 ghost use Rattle.arith.specs.Parts.{partAt};
 ghost use Rattle.probe.specs.Fingerprint.{fingerprintOf};
 ghost use Rattle.valmap.specs.Map.{homeOf, Held, Searchable, FindOk, Room};
 ghost use Rattle.pairs.specs.Index.{rowsOf, holds};
-ghost use Rattle.pairs.specs.Encoding.{atomsMax, limitMax};
 ghost use Rattle.maps.specs.Area.{bankBits, bankArea, headRoom, Prepared, InsertedPair};
 
 // What a build is of: the width, how many atoms and at most how many pairs, and the bits of the pairs' map.
@@ -29,7 +29,7 @@ const HEAD_ROOM: usize = 413;
 
 // How many heads the pairs' map may have: what there is room for, but not many more than trials, since all are emptied.
 fn most_heads(limit: usize, count: usize) -> usize
-    requires { ⌜ (limit ≤ limitMax) × (count ≤ atomsMax) ⌝ }
+    requires { ⌜ (limit ≤ pairsMax) × (count ≤ atomsMax) ⌝ }
     ensures { λ r. ⌜ r ≤ headRoom limit ⌝ }
 {
     let room = 3 * limit + HEAD_ROOM;
@@ -39,7 +39,7 @@ fn most_heads(limit: usize, count: usize) -> usize
 
 // The bits of the pairs' map.
 pub fn map_bits(limit: usize, count: usize) -> u32
-    requires { ⌜ (limit ≤ limitMax) × (count ≤ atomsMax) ⌝ }
+    requires { ⌜ (limit ≤ pairsMax) × (count ≤ atomsMax) ⌝ }
     ensures { λ r. ⌜ (r ≤ 31) × (2 ^ r ≤ headRoom limit) ⌝ }
 {
     let most = most_heads(limit, count);

@@ -2,7 +2,3 @@
 pub mod Sorted
 pub mod OrderLaws
 pub mod Tested
-pub mod Count
-pub mod Halves
-pub mod Moves
-pub mod Whole

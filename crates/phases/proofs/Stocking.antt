@@ -19,13 +19,13 @@ use Rattle.atoms.proofs.Encodings.{written-none}
 use Rattle.atoms.proofs.Pushes.{pushAll-snoc}
 use Rattle.atoms.proofs.Growth.{pushAll-grows, turns-grows, built-grows}
 use Rattle.atoms.proofs.Banks.{base-few, before-turn-few}
-use Rattle.entry.specs.declared.Cursor.{Cursor}
+use Rattle.stock.specs.declared.Cursor.{Cursor}
 use Rattle.entry.specs.declared.Entry.{Entry}
 use Rattle.entry.specs.declared.Seeds.{Seeds}
 use Rattle.entry.specs.Entry.{entryOf, IsConstant}
-use Rattle.entry.specs.Cursor.{Stands, formOf, nextOf, firstOf, isDone, restOf}
+use Rattle.stock.specs.Cursor.{Stands, formOf, nextOf, firstOf, isDone, restOf}
 use Rattle.entry.specs.Seeding.{AreSeeds}
-use Rattle.entry.proofs.Walk.{first-rest, first-stands, next-stands, next-rest, done-rest}
+use Rattle.stock.proofs.Walk.{first-rest, first-stands, next-stands, next-rest, done-rest}
 use Rattle.pool.specs.Pool.{Ready, IsBank, Pushed}
 use Rattle.turns.specs.Phases.{Asked, Holding, Phase, turnedOf}
 use Rattle.turns.proofs.Phasing.{phase-on}

@@ -22,10 +22,10 @@ fn push_stock(
     ensures { λ r. ⌜ Phase (arrays (now (lengths .entry)) (now (ops .entry)) (now (operands .entry)) (now (costs .entry)) (now (rows .entry))) (arrays (now (lengths .exit)) (now (ops .exit)) (now (operands .exit)) (now (costs .exit)) (now (rows .exit))) (now (work .exit)) r (baseOf nv w points) ⌝ }
 {
     let mut n: usize = 0;
-    let mut at = entry::first();
-    while !entry::is_done(at) {
-        let e = entry::inner::entry_at(at, nv, w, points);
-        at = entry::inner::next(at, nv);
+    let mut at = stock::inner::first();
+    while !stock::inner::is_done(at) {
+        let e = stock::inner::entry_at(at, nv, w, points);
+        at = stock::inner::next(at, nv);
         n = pool::inner::push(lengths, ops, operands, costs, rows, work, n, e);
     }
     n
@@ -49,7 +49,7 @@ fn push_seeds(
     requires { ⌜ Holding (arrays (now lengths) (now ops) (now operands) (now costs) (now rows)) (now work) turned (turnedOf nv w points) ⌝ }
     ensures { λ r. ⌜ Phase (arrays (now (lengths .entry)) (now (ops .entry)) (now (operands .entry)) (now (costs .entry)) (now (rows .entry))) (arrays (now (lengths .exit)) (now (ops .exit)) (now (operands .exit)) (now (costs .exit)) (now (rows .exit))) (now (work .exit)) r (bankOf nv w points target) ⌝ }
 {
-    let seeds = entry::seeds_of(target);
+    let seeds = entry::inner::seeds_of(target);
     let count = seeds.count as usize;
     let mut n = turned;
     let mut i: usize = 0;

@@ -1,25 +1,24 @@
 -- Laws of a push into the arrays: what the map finds is what `push` finds in the list, and what is stored is the part of the list that `push` changes. Assumes nothing.
-use mathlib.Core.Path.{_≡_, refl, sym, ap, _∙_, subst}
+use mathlib.Core.Path.{_≡_, refl, sym, ap, _∙_}
 use mathlib.Core.Bool.{Bool, true, false, cond}
 use mathlib.Core.List.{List, [], _∷_, _++_}
 use Prim.Native.Nat.{ℕ, _+_, _*_, _≤_, _<_}
 use native.Mathlib.Decide.{ℕ-discrete}
 use native.Mathlib.Omega.{arith}
 use borrow.Author.Count.{below-more}
-use lib.ListN.{length, getD, set, drop, length-append, length-set, List·getD-append}
+use lib.ListN.{length, getD, set, length-append, length-set, List·getD-append}
 use lib.Seq.{getD-at, getD-set-same, getD-set-other}
-use Rattle.arith.specs.Parts.{partAt, putPart, encode}
+use Rattle.arith.specs.Parts.{partAt, putPart}
 use Rattle.arith.proofs.Parts.{getD-part, encode-same}
 use Rattle.expr_cost.specs.declared.Cost.{Cost}
 use Rattle.expr_cost.specs.Cost.{isBetter}
-use Rattle.valmap.specs.Map.{Held, cleared, Hit, Miss}
+use Rattle.valmap.specs.Map.{cleared, Hit, Miss}
 use Rattle.valmap.proofs.MapLaws.{held-empty}
 use Rattle.atoms.specs.Bank.{Atom, noAtom, push}
-use Rattle.atoms.specs.Encoding.{padTo, rowPart, Arrays, spread, written}
+use Rattle.atoms.specs.Encoding.{padTo, rowPart, Arrays, written}
 use Rattle.atoms.proofs.Pushes.{First, Absent, distinct-first, push-new, replaced, push-held, push-better, push-worse, push-cases}
-use Rattle.atoms.proofs.Encodings.{row-full, putAtom, written-none, written-set, written-add, length-at, ops-at, operands-at, cost-at, row-at}
+use Rattle.atoms.proofs.Encodings.{row-full, written-none, written-set, written-add, length-at, ops-at, operands-at, cost-at, row-at}
 use Rattle.atoms.proofs.Soundness.{push-distinct}
-use Rattle.entry.specs.declared.Formula.{Formula}
 use Rattle.entry.specs.declared.Entry.{Entry}
 use Rattle.entry.specs.Entry.{entryOf}
 use Rattle.pool.specs.Pool.{arrays, Texts, texts, textsOf, putText, putEntry, TextRoom, Ready, IsBank, heldCost, putBetter, Appended, Pushed, Started, Loaded}

@@ -14,22 +14,14 @@ pub fn write_ops(part: &mut [u8], ops: [u8; 6])
     requires { ⌜ length (now part) ≡ 6 ⌝ }
     ensures { λ _. ⌜ now (part .exit) ≡ ops ⌝ }
 {
-    let mut i: usize = 0;
-    while i < ATOM_TOKENS {
-        part[i] = ops[i];
-        i += 1;
-    }
+    arith::inner::copy_bytes(part, &ops);
 }
 
 pub fn write_operands(part: &mut [u64], operands: [u64; 6])
     requires { ⌜ length (now part) ≡ 6 ⌝ }
     ensures { λ _. ⌜ now (part .exit) ≡ operands ⌝ }
 {
-    let mut i: usize = 0;
-    while i < ATOM_TOKENS {
-        part[i] = operands[i];
-        i += 1;
-    }
+    arith::inner::copy_words(part, &operands);
 }
 
 pub fn write_cost(part: &mut [u32], cost: Cost)
@@ -47,11 +39,7 @@ pub fn load_ops(ops: &[u8], slot: AtomSlot) -> [u8; 6]
 {
     let base = ATOM_TOKENS * slot.0 as usize;
     let mut six = [0u8; ATOM_TOKENS];
-    let mut i: usize = 0;
-    while i < ATOM_TOKENS {
-        six[i] = ops[base + i];
-        i += 1;
-    }
+    arith::inner::copy_bytes(&mut six, &ops[base..base + ATOM_TOKENS]);
     six
 }
 
@@ -61,11 +49,7 @@ pub fn load_operands(operands: &[u64], slot: AtomSlot) -> [u64; 6]
 {
     let base = ATOM_TOKENS * slot.0 as usize;
     let mut six = [0u64; ATOM_TOKENS];
-    let mut i: usize = 0;
-    while i < ATOM_TOKENS {
-        six[i] = operands[base + i];
-        i += 1;
-    }
+    arith::inner::copy_words(&mut six, &operands[base..base + ATOM_TOKENS]);
     six
 }
 

@@ -9,7 +9,7 @@ use native.Mathlib.Omega.{arith}
 use lib.ListN.{length, getD, take, drop}
 use Rattle.arith.specs.Lists.{countUp}
 use Rattle.arith.proofs.Lists.{count-add}
-use Rattle.arith.specs.Parts.{partAt}
+use Rattle.arith.specs.Parts.{partAt, spread}
 use Rattle.arith.proofs.Parts.{getD-part, encode-part}
 use Rattle.simd.specs.declared.Gate.the-variants.{And}
 use Rattle.expr.specs.declared.Token.{Token}
@@ -19,7 +19,7 @@ use Rattle.atoms.specs.Bank.{Atom, noAtom}
 use Rattle.atoms.specs.Encoding.{Arrays, written}
 use Rattle.atoms.proofs.Encodings.{form-back, length-at, ops-at, operands-at, cost-at}
 use Rattle.pairs.specs.Index.{Pair, Index}
-use Rattle.pairs.specs.Encoding.{spread, pairPart}
+use Rattle.pairs.specs.Encoding.{pairPart}
 use Rattle.print.specs.Text.{field, headLine, costLine, tokenText, tokensText, formulaLine, pairLine, listingOf}
 use Rattle.print.specs.Printing.{Wrote, linesText, numbersLine, numbersAt, formulaAt, nextText, Holding}
 use Rattle.print.proofs.Decimals.{then, nothing, reads}

@@ -6,13 +6,13 @@ use Prim.Native.Nat.{ℕ, zero, suc, _+_, _*_, _≤_, _<_}
 use lib.ListN.{length, getD}
 use lib.Seq.{sets}
 use Rattle.arith.specs.Lists.{countUp}
-use Rattle.arith.specs.Parts.{partAt}
+use Rattle.arith.specs.Parts.{partAt, spread}
 use Rattle.expr.specs.declared.Token.{Token}
 use Rattle.expr.specs.Formula.{tokens}
 use Rattle.atoms.specs.Bank.{Atom}
 use Rattle.atoms.specs.Encoding.{Arrays, written}
 use Rattle.pairs.specs.Index.{Index}
-use Rattle.pairs.specs.Encoding.{spread, pairPart}
+use Rattle.pairs.specs.Encoding.{pairPart}
 use Rattle.print.specs.Text.{decimal, field, tokenText, formulaLine, listingOf}
 
 -- l′ is l with the text laid from place i on, and r is the place after it

@@ -1,16 +1,16 @@
 -- A formula over nv variables reads no word past the first nv. Assumes nothing.
 use mathlib.Core.Path.{_≡_, refl, sym, ap, ap₂, _∙_}
-use mathlib.Core.Bool.{Bool, true, false, _&&_}
-use mathlib.Core.List.{List, [], _∷_, map}
+use mathlib.Core.Bool.{true}
+use mathlib.Core.List.{List, [], _∷_}
 use Prim.Native.Nat.{ℕ, _%_, _^_, _<_}
 use borrow.Author.Tests.{ltb-true}
-use lib.ListN.{length, getD}
+use lib.ListN.{getD}
 use Rattle.expr.specs.declared.Token.{Token}
 use Rattle.expr.specs.Formula.{orElse, isFormula}
 use Rattle.expr.specs.Tree.{Tree, written, within, fold}
 use Rattle.expr.specs.Tree.Tree.{constant, variable, inverted, negated, gated}
 use Rattle.expr.proofs.Machine.{and-left, and-right}
-use Rattle.expr.proofs.Trees.{whole-tree, IsTree, formula-is-tree}
+use Rattle.expr.proofs.Trees.{whole-tree, formula-is-tree}
 use Rattle.evaluator.specs.Value.{valueAlg, valueOf}
 use Rattle.probe.specs.declared.Point.{Point}
 use Rattle.probe.specs.FormulaRow.{rowOf}

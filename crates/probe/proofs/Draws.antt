@@ -4,7 +4,7 @@ use mathlib.Core.List.{List, [], _∷_, _++_}
 use Prim.Native.Nat.{ℕ, zero, suc, _+_, _-_, _%_, _^_, _<_}
 use native.Mathlib.Numerals.{add-one}
 use native.Mathlib.Omega.{arith}
-use lib.ListN.{length, set, take, replicate, length-replicate, length-append}
+use lib.ListN.{length, set, take, replicate}
 use lib.Seq.{set-at, append-snoc, take-suc-set}
 use Rattle.probe.specs.declared.Point.{Point}
 use Rattle.probe.specs.Points.{nextState, wordOf, stateAfter, wordsFrom, pointFrom, pointsFrom}

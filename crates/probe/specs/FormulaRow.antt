@@ -1,10 +1,9 @@
 -- The row of a formula at the sixteen points. Assumes nothing.
-use mathlib.Core.Bool.{Bool}
 use mathlib.Core.List.{List, map}
 use Prim.Native.Nat.{ℕ}
-use lib.ListN.{replicate}
-use Rattle.arith.specs.Refusal.{refuse, unlessRefused, badCount, badWidth}
+use Rattle.arith.specs.Refusal.{refuse, badCount, badWidth}
 use Rattle.simd.specs.declared.RowAnswer.{RowAnswer}
+use Rattle.simd.specs.Gates.{rowOr}
 use Rattle.expr.specs.declared.Token.{Token}
 use Rattle.expr.specs.Formula.{tokens}
 use Rattle.expr.specs.Answers.{tooShort, notFormula}
@@ -24,14 +23,7 @@ probeRefusal nv w count ops operands =
     (refuse (tooShort count ops operands) 4
     (refuse (notFormula nv count ops operands) 6 0)))
 
--- 01, Turned back: a row handed back by value holds only zeros when turned back
-abbrev pub zeroRow : List ℕ
-zeroRow = replicate 16 0
-
 -- what `probe` answers
-abbrev pub rowOrZeros : ℕ → List ℕ → RowAnswer
-rowOrZeros number row = record { refusal = number; row = unlessRefused number row zeroRow }
-
 abbrev pub probed : ℕ → ℕ → List Point → ℕ → List ℕ → List ℕ → RowAnswer
 probed nv w points count ops operands =
-    rowOrZeros (probeRefusal nv w count ops operands) (rowOf w points (tokens count ops operands))
+    rowOr (probeRefusal nv w count ops operands) (rowOf w points (tokens count ops operands))

@@ -5,7 +5,7 @@ ghost use mathlib.Core.Bool.{true};
 ghost use Prim.Native.Nat.{_≤_};
 ghost use Rattle.expr.specs.Formula.{tokens, isFormula};
 ghost use Rattle.evaluator.specs.Value.{valueOf};
-ghost use Rattle.probe.specs.FormulaRow.{rowOf, zeroRow, probed};
+ghost use Rattle.probe.specs.FormulaRow.{rowOf, probed};
 ghost use Rattle.probe.specs.Points.{drawn, zeroPoints, probePoints, madePoints, DrawsPoint};
 ghost use Rattle.probe.specs.Fingerprint.{fingerprintOf, mixWord, finished};
 
@@ -57,10 +57,10 @@ pub fn splitmix64(state: u64) -> Draw
 pub fn make_probe_points(nv: u32, w: u32) -> Points
     ensures { λ r. ⌜ r ≡ madePoints nv w ⌝ }
 {
-    if arith::bad_count(nv) {
+    if arith::inner::bad_count(nv) {
         return refused_points(1);
     }
-    if arith::bad_width(w) {
+    if arith::inner::bad_width(w) {
         return refused_points(2);
     }
     let points = draw_points(nv as usize, w);
@@ -124,28 +124,21 @@ pub fn probe(
 ) -> RowAnswer
     ensures { λ r. ⌜ r ≡ probed nv w points count (now (ops .entry)) (now (operands .entry)) ⌝ }
 {
-    if arith::bad_count(nv) {
-        return refused_row(1);
+    if arith::inner::bad_count(nv) {
+        return simd::inner::refused_row(1);
     }
-    if arith::bad_width(w) {
-        return refused_row(2);
+    if arith::inner::bad_width(w) {
+        return simd::inner::refused_row(2);
     }
-    if expr::too_short(count, ops, operands) {
-        return refused_row(4);
+    if expr::inner::too_short(count, ops, operands) {
+        return simd::inner::refused_row(4);
     }
     if expr::is_formula(nv, count, ops, operands) {
         let row = row_at_points(w, points, count, ops, operands);
         RowAnswer { refusal: 0, row }
     } else {
-        refused_row(6)
+        simd::inner::refused_row(6)
     }
-}
-
-fn refused_row(refusal: u32) -> RowAnswer
-    ensures { λ r. ⌜ r ≡ record { refusal = refusal; row = zeroRow } ⌝ }
-{
-    let row = [0u64; POINTS];
-    RowAnswer { refusal, row }
 }
 
 // The value at one point.

@@ -4,6 +4,7 @@ use mathlib.Core.List.{List}
 use mathlib.Core.Option.{Option, none, some}
 use Prim.Native.Nat.{ℕ, _*_, _^_, _≤_, _<_}
 use lib.ListN.{length, getD}
+use Rattle.simd.specs.Limits.{atomsMax}
 use Rattle.filter.specs.Places.{Ordered}
 use Rattle.product.specs.declared.inner.Found.{Found}
 use Rattle.product.specs.declared.inner.Found.the-variants.{Atoms, AtomPair, Nothing}
@@ -13,7 +14,7 @@ use Rattle.product.specs.Trying.{Product}
 pub record Lent (w count : ℕ) (atoms : List ℕ) (n : ℕ) (listed order target : List ℕ) : Type 0 where
   pub least : 1 ≤ w
   pub width : w ≤ 64
-  pub few : count ≤ 479
+  pub few : count ≤ atomsMax
   pub atoms-fit : 16 * count ≤ length atoms
   pub ordered : Ordered n listed order
   pub long : length target ≡ 16

@@ -11,7 +11,8 @@ use lib.ListN.{length, getD, take}
 use Rattle.arith.specs.Refusal.{badWidth, answer, refused}
 use Rattle.arith.proofs.Refusals.{within, passed, neither, enough, unless-refused, unless-not}
 use Rattle.order.specs.Order.{isOrder}
-use Rattle.filter.specs.Refusals.{shortPairs, tooManyPairs, wrongOrder}
+use Rattle.filter.specs.Refusals.{shortPairs, wrongOrder}
+use Rattle.simd.specs.Limits.{tooManyPairs}
 use Rattle.simd.specs.Range.{reaches}
 use Rattle.product.specs.Trying.{Product, tryEverything}
 use Rattle.product.specs.Stages.{Lent}

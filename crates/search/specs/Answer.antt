@@ -1,13 +1,11 @@
 -- What a product search answers, from its inputs alone. Assumes nothing.
-use mathlib.Core.Path.{_≡_}
-use mathlib.Core.Bool.{Bool, _||_}
+use mathlib.Core.Bool.{_||_}
 use mathlib.Core.List.{List}
 use mathlib.Core.Option.{Option, none, some}
-use Prim.Native.Nat.{ℕ, _/_, _^_}
-use lib.Dec.{ltb}
-use lib.ListN.{length}
+use Prim.Native.Nat.{ℕ, _^_}
 use Rattle.arith.specs.Refusal.{refuse, badWidth, Outcome, refused, answer, outcome}
-use Rattle.filter.specs.Refusals.{shortPairs, tooManyPairs, wrongOrder}
+use Rattle.filter.specs.Refusals.{shortPairs, wrongOrder}
+use Rattle.simd.specs.Limits.{tooFewRows, tooManyAtoms, tooManyPairs}
 use Rattle.simd.specs.Range.{reaches}
 use Rattle.search.specs.declared.ProductAnswer.{ProductAnswer}
 use Rattle.search.specs.declared.ProductAnswer.the-variants.{Atoms, AtomPair, Nothing, Refused}
@@ -17,9 +15,9 @@ use Rattle.product.specs.Trying.{Product, tryEverything}
 abbrev pub searchRefusal : ℕ → ℕ → List ℕ → ℕ → List ℕ → List ℕ → List ℕ → ℕ
 searchRefusal w count atoms n listed order target =
     refuse (badWidth w) 2
-    (refuse (ltb (length atoms / 16) count || shortPairs n listed order) 4
+    (refuse (tooFewRows count atoms || shortPairs n listed order) 4
     (refuse (reaches (2 ^ w) target) 5
-    (refuse (ltb 479 count || tooManyPairs n) 7
+    (refuse (tooManyAtoms count || tooManyPairs n) 7
     (refuse (wrongOrder n listed order) 8 0))))
 
 -- what each case of `ProductAnswer` says

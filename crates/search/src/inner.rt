@@ -14,7 +14,7 @@ pub fn search_refusal(
 ) -> u32
     ensures { λ r. ⌜ r ≡ searchRefusal w count (now (atoms .entry)) pairs (now (listed .entry)) (now (slots .entry)) target ⌝ }
 {
-    if arith::bad_width(w) {
+    if arith::inner::bad_width(w) {
         return 2;
     }
     if atoms.len() / simd::ROW_WORDS < count {

@@ -1,16 +1,14 @@
 -- Laws of rows: a gate place by place, and the test of equality. Assumes nothing.
 use mathlib.Core.Path.{_≡_, refl, sym, ap, ap₂, _∙_}
 use mathlib.Core.Bool.{Bool, true, false, cond}
-use mathlib.Core.List.{List, [], _∷_, zipWith}
-use Prim.Native.Nat.{ℕ, zero, suc, _<_}
+use mathlib.Core.List.{List, [], _∷_}
+use Prim.Native.Nat.{ℕ, _<_}
 use native.Mathlib.Decide.{ℕ-discrete}
-use native.Mathlib.Omega.{arith}
 use borrow.Author.Tests.{eq-eqb, ne-eqb}
-use lib.Dec.{eqb}
 use lib.ListN.{length, getD}
 use Rattle.arith.proofs.Fill.{length-zipWith, getD-zipWith}
 use Rattle.arith.proofs.Refusals.{true-not-false}
-use Rattle.simd.specs.Gates.{gateOf, gateRow, residualOf, residualRow, sameRow}
+use Rattle.simd.specs.Gates.{gateOf, gateRow, sameRow}
 use Rattle.simd.specs.declared.Gate.{Gate}
 
 pub length-gateRow : (g : Gate) (w : ℕ) (a b : List ℕ) → length a ≡ length b → length (gateRow g w a b) ≡ length a

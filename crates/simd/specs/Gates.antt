@@ -74,6 +74,9 @@ abbrev pub gateRefusal : ℕ → ℕ
 gateRefusal w = refuse (badWidth w) 2 0
 
 -- 01, Turned back: a row that a call hands back by value holds only zeros when turned back, beside the number
+abbrev pub refusedRow : ℕ → RowAnswer
+refusedRow number = record { refusal = number; row = replicate 16 0 }
+
 abbrev pub rowOr : ℕ → List ℕ → RowAnswer
 rowOr number row = record { refusal = number; row = unlessRefused number row (replicate 16 0) }
 

@@ -1,12 +1,23 @@
 // What the crates above call with a width, a slot or a part that they have tested.
 use crate::Gate;
 use crate::ROW_WORDS;
+use crate::RowAnswer;
 ghost use mathlib.Core.Path.{_≡_};
 ghost use Prim.Native.Nat.{_+_, _*_, _^_, _≤_};
 ghost use lib.ListN.{length};
 ghost use Rattle.arith.specs.Parts.{partAt};
-ghost use Rattle.simd.specs.Gates.{gateAt, gateOf, gateRow, residualOf, residualRow, sameRow};
+ghost use Rattle.simd.specs.Gates.{gateAt, gateOf, gateRow, residualOf, residualRow, sameRow, refusedRow};
 ghost use Rattle.simd.specs.Range.{reaches};
+
+// Zeros beside a refusal.
+pub fn refused_row(refusal: u32) -> RowAnswer
+    ensures { λ r. ⌜ r ≡ refusedRow refusal ⌝ }
+{
+    RowAnswer {
+        refusal,
+        row: [0; ROW_WORDS],
+    }
+}
 
 // The gate of a number.
 pub fn gate_at(k: u32) -> Gate
@@ -97,11 +108,7 @@ pub fn load_row(rows: &[u64], slot: usize) -> [u64; 16]
 {
     let base = ROW_WORDS * slot;
     let mut row = [0u64; ROW_WORDS];
-    let mut i: usize = 0;
-    while i < ROW_WORDS {
-        row[i] = rows[base + i];
-        i += 1;
-    }
+    arith::inner::copy_words(&mut row, &rows[base..base + ROW_WORDS]);
     row
 }
 
@@ -110,11 +117,7 @@ pub fn write_row(part: &mut [u64], row: [u64; 16])
     requires { ⌜ length (now part) ≡ 16 ⌝ }
     ensures { λ _. ⌜ now (part .exit) ≡ row ⌝ }
 {
-    let mut i: usize = 0;
-    while i < ROW_WORDS {
-        part[i] = row[i];
-        i += 1;
-    }
+    arith::inner::copy_words(part, &row);
 }
 
 // Whether row `slot` of lent rows is `row`, in all sixteen words. Stops at the first that differs.

@@ -2,8 +2,7 @@
 pub mod inner;
 
 ghost use mathlib.Core.Path.{_≡_};
-ghost use mathlib.Core.List.{[]};
-ghost use Rattle.simd.specs.Gates.{rowOr, applied, residual, matchSays, matched};
+ghost use Rattle.simd.specs.Gates.{applied, residual, matchSays, matched};
 
 // The words of a row (N_PROBES).
 pub const ROW_WORDS: usize = 16;
@@ -38,22 +37,12 @@ pub enum Match {
     Refused(u32),
 }
 
-// A width that isn't 1 to 64.
-fn refused_row() -> RowAnswer
-    ensures { λ r. ⌜ r ≡ rowOr 2 [] ⌝ }
-{
-    RowAnswer {
-        refusal: 2,
-        row: [0; ROW_WORDS],
-    }
-}
-
 // The gate of a and b in each place: And, Or and Xor leave high bits in place, Add and Mul reduce. Refuses 2.
 pub fn gate_apply(a: [u64; 16], b: [u64; 16], g: Gate, w: u32) -> RowAnswer
     ensures { λ r. ⌜ r ≡ applied g w a b ⌝ }
 {
-    if arith::bad_width(w) {
-        return refused_row();
+    if arith::inner::bad_width(w) {
+        return inner::refused_row(2);
     }
     let row = inner::gate_row(a, b, g, w);
     RowAnswer { refusal: 0, row }
@@ -63,8 +52,8 @@ pub fn gate_apply(a: [u64; 16], b: [u64; 16], g: Gate, w: u32) -> RowAnswer
 pub fn gate_residual(target: [u64; 16], a: [u64; 16], g: Gate, w: u32) -> RowAnswer
     ensures { λ r. ⌜ r ≡ residual g w target a ⌝ }
 {
-    if arith::bad_width(w) {
-        return refused_row();
+    if arith::inner::bad_width(w) {
+        return inner::refused_row(2);
     }
     let row = inner::residual_row(target, a, g, w);
     RowAnswer { refusal: 0, row }
@@ -74,7 +63,7 @@ pub fn gate_residual(target: [u64; 16], a: [u64; 16], g: Gate, w: u32) -> RowAns
 pub fn gate_matches(a: [u64; 16], b: [u64; 16], target: [u64; 16], g: Gate, w: u32) -> Match
     ensures { λ r. ⌜ matchSays r ≡ matched g w a b target ⌝ }
 {
-    if arith::bad_width(w) {
+    if arith::inner::bad_width(w) {
         return Match::Refused(2);
     }
     if inner::row_matches(a, b, target, g, w) {

@@ -4,13 +4,14 @@ use mathlib.Core.Bool.{Bool, false}
 use mathlib.Core.List.{List, [], _∷_, _++_}
 use Prim.Native.Nat.{ℕ, _+_, _*_, _^_, _≤_, _<_}
 use lib.ListN.{length, take, drop}
+use Rattle.simd.specs.Limits.{atomsMax, pairsMax}
 use Rattle.arith.specs.Parts.{encode, putPart}
 use Rattle.valmap.specs.Map.{Held, homeOf}
 use Rattle.simd.specs.Gates.{gateNumber}
 use Rattle.simd.specs.declared.Gate.{Gate}
 use Rattle.pairs.specs.Index.{Trial, Index, rowsIn, rowsOf}
 use Rattle.pairs.specs.Turns.{tryAll}
-use Rattle.pairs.specs.Encoding.{atomsMax, limitMax, pairPart}
+use Rattle.pairs.specs.Encoding.{pairPart}
 use Rattle.maps.specs.Area.{bankBits, bankArea}
 use Rattle.maps.specs.declared.inner.Job.{Job}
 use Rattle.trial.specs.declared.inner.Tally.{Tally}
@@ -20,7 +21,7 @@ pub record Sized (job : Job) (rows work pairs pairRows : List ℕ) : Type 0 wher
   pub width : job .w ≤ 64
   pub few : job .count ≤ atomsMax
   pub atoms : 16 * job .count ≤ length rows
-  pub most : job .limit ≤ limitMax
+  pub most : job .limit ≤ pairsMax
   pub pairs-fit : 3 * job .limit ≤ length pairs
   pub rows-fit : 16 * job .limit ≤ length pairRows
   pub heads : job .bits ≤ 31

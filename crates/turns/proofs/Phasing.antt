@@ -6,10 +6,10 @@ use native.Mathlib.Nat.{mul-le-mul-left}
 use native.Mathlib.Omega.{arith}
 use lib.ListN.{length, drop}
 use lib.Seq.{drop-drop, drop-append-add}
-use Rattle.arith.specs.Parts.{encode}
+use Rattle.arith.specs.Parts.{encode, spread}
 use Rattle.arith.proofs.Parts.{length-encode}
 use Rattle.atoms.specs.Bank.{Atom}
-use Rattle.atoms.specs.Encoding.{Arrays, spread, written, lengthPart, opsPart, operandsPart, costPart, rowPart}
+use Rattle.atoms.specs.Encoding.{Arrays, written, lengthPart, opsPart, operandsPart, costPart, rowPart}
 use Rattle.atoms.proofs.Encodings.{length-wide, ops-wide, operands-wide, cost-wide, row-wide}
 use Rattle.pool.specs.Pool.{IsBank}
 use Rattle.turns.specs.Phases.{Holding, Phase}

@@ -12,7 +12,7 @@ ghost use Rattle.abi.specs.Slices.{rowRefusal, pointsRefusal, pointsRowR
 pub fn row_refusal(w: u32, row: &[u64]) -> u32
     ensures { λ r. ⌜ r ≡ rowRefusal w (now (row .entry)) ⌝ }
 {
-    if arith::bad_width(w) {
+    if arith::inner::bad_width(w) {
         return 2;
     }
     if row.len() < ROW_WORDS {
@@ -25,10 +25,10 @@ pub fn row_refusal(w: u32, row: &[u64]) -> u32
 pub fn points_refusal(nv: u32, w: u32, points: &[u64]) -> u32
     ensures { λ r. ⌜ r ≡ pointsRefusal nv w (now (points .entry)) ⌝ }
 {
-    if arith::bad_count(nv) {
+    if arith::inner::bad_count(nv) {
         return 1;
     }
-    if arith::bad_width(w) {
+    if arith::inner::bad_width(w) {
         return 2;
     }
     if points.len() < POINTS * POINT_WORDS {
@@ -41,10 +41,10 @@ pub fn points_refusal(nv: u32, w: u32, points: &[u64]) -> u32
 pub fn points_row_refusal(nv: u32, w: u32, points: &[u64], row: &[u64]) -> u32
     ensures { λ r. ⌜ r ≡ pointsRowRefusal nv w (now (points .entry)) (now (row .entry)) ⌝ }
 {
-    if arith::bad_count(nv) {
+    if arith::inner::bad_count(nv) {
         return 1;
     }
-    if arith::bad_width(w) {
+    if arith::inner::bad_width(w) {
         return 2;
     }
     if points.len() < POINTS * POINT_WORDS {
@@ -109,7 +109,7 @@ pub fn three_short(a: &[u64], b: &[u64], c: &[u64]) -> bool
 pub fn gate_refusal(w: u32, short: bool, g: u32) -> u32
     ensures { λ r. ⌜ r ≡ gateRefusal w short g ⌝ }
 {
-    if arith::bad_width(w) {
+    if arith::inner::bad_width(w) {
         return 2;
     }
     if short {

@@ -1,6 +1,6 @@
 -- `arith::mod_sub` meets its contract: b added to the result gives a, at 64 bits and so at w. Assumes nothing.
-use mathlib.Core.Path.{_≡_, sym, ap, _∙_}
-use Prim.Native.Nat.{ℕ, _+_, _%_, _^_, min}
+use mathlib.Core.Path.{sym, ap, _∙_}
+use Prim.Native.Nat.{ℕ, _+_, _%_, min}
 use borrow.Author.Needs.{needs}
 use lib.Pow.{pow-pos}
 use Rattle.arith.specs.Word.{modulus}

@@ -3,8 +3,6 @@ use mathlib.Core.Path.{sym}
 use Prim.Native.Nat.{_-_}
 use borrow.Author.Needs.{needs}
 use lib.Seq.{length-take-le}
-use mathlib.Core.Path.{sym}
-use Prim.Native.Nat.{_-_}
 use Rattle.compare.proofs.is_same.Statement.{statement}
 use Rattle.compare.proofs.is_same.Tie as tie
 

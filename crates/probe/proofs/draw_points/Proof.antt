@@ -8,12 +8,6 @@ use lib.ListN.{length, take, length-set}
 use lib.Seq.{take-all}
 use Rattle.probe.specs.Points.{pointsFrom, probePoints}
 use Rattle.probe.proofs.Draws.{point-more}
-use mathlib.Core.Path.{_≡_, refl, sym, ap, _∙_}
-use mathlib.Core.List.{_++_, append-nil}
-use Prim.Native.Nat.{ℕ, _+_, _-_, _≤_}
-use lib.ListN.{length, take, length-set}
-use Rattle.probe.specs.Points.{pointsFrom, probePoints}
-use Rattle.probe.proofs.Draws.{point-more}
 use Rattle.probe.proofs.draw_points.Statement.{statement}
 use Rattle.probe.proofs.draw_points.Tie as tie
 

@@ -8,11 +8,6 @@ use Rattle.arith.specs.Refusal.{refuse, badWidth}
 use Rattle.arith.proofs.Refusals.{within}
 use Rattle.probe.specs.declared.Point.{Point}
 use Rattle.probe.specs.Points.{probePoints, pointsOr}
-use mathlib.Core.Path.{sym, ap, ap₂, _∙_}
-use mathlib.Core.Bool.{Bool}
-use mathlib.Core.List.{List}
-use Prim.Native.Nat.{_-_}
-use Rattle.probe.specs.Points.{probePoints, pointsOr}
 use Rattle.probe.proofs.make_probe_points.Statement.{statement}
 use Rattle.probe.proofs.make_probe_points.Tie as tie
 

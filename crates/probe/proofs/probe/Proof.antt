@@ -3,10 +3,10 @@ use mathlib.Core.Path.{refl, sym, ap, _∙_}
 use mathlib.Core.List.{List}
 use Prim.Native.Nat.{ℕ, _-_}
 use borrow.Author.Needs.{needs}
-use Rattle.arith.proofs.Refusals.{within}
+use Rattle.arith.proofs.Refusals.{within, refused-here, refused-later}
 use Rattle.expr.specs.Formula.{tokens}
-use Rattle.probe.specs.FormulaRow.{rowOf, rowOrZeros}
-use Rattle.arith.proofs.Refusals.{refused-here, refused-later}
+use Rattle.simd.specs.Gates.{rowOr}
+use Rattle.probe.specs.FormulaRow.{rowOf}
 use Rattle.expr.proofs.Machine.{formula-more}
 use mathlib.Core.Bool.{not}
 use Rattle.probe.proofs.probe.Statement.{statement}
@@ -23,7 +23,7 @@ returns c =
     let e1 = c .before in
     let a = e1 .before .before .before .before .args in
     c .refused-row .ensures
-    ∙ ap (λ (k : ℕ). rowOrZeros k (rowOf (a .w) (a .points) (tokens (a .count) (a .ops .now) (a .operands .now))))
+    ∙ ap (λ (k : ℕ). rowOr k (rowOf (a .w) (a .points) (tokens (a .count) (a .ops .now) (a .operands .now))))
     (sym (refused-here 1 _ (sym (e1 .before .bad-count .ensures) ∙ e1 .if1 .taken)))
 
 bad-width-requires : tie.Need-bad-width-requires
@@ -38,7 +38,7 @@ returns-2 c =
     let e1 = e2 .before .before in
     let a = e1 .before .before .before .before .args in
     c .refused-row2 .ensures
-    ∙ ap (λ (k : ℕ). rowOrZeros k (rowOf (a .w) (a .points) (tokens (a .count) (a .ops .now) (a .operands .now))))
+    ∙ ap (λ (k : ℕ). rowOr k (rowOf (a .w) (a .points) (tokens (a .count) (a .ops .now) (a .operands .now))))
     (sym
     (refused-later 1 (sym (e1 .before .bad-count .ensures) ∙ e1 .if1 .left)
     (refused-here 2 _ (sym (e2 .before .bad-width .ensures) ∙ e2 .if2 .taken))))
@@ -56,7 +56,7 @@ returns-3 c =
     let e1 = e2 .before .before in
     let a = e1 .before .before .before .before .args in
     c .refused-row3 .ensures
-    ∙ ap (λ (k : ℕ). rowOrZeros k (rowOf (a .w) (a .points) (tokens (a .count) (a .ops .now) (a .operands .now))))
+    ∙ ap (λ (k : ℕ). rowOr k (rowOf (a .w) (a .points) (tokens (a .count) (a .ops .now) (a .operands .now))))
     (sym
     (refused-later 1 (sym (e1 .before .bad-count .ensures) ∙ e1 .if1 .left)
     (refused-later 2 (sym (e2 .before .bad-width .ensures) ∙ e2 .if2 .left)
@@ -84,8 +84,8 @@ returns-4 c =
     let e2 = e3 .before .before in
     let e1 = e2 .before .before in
     let a = e1 .before .before .before .before .args in
-    ap (λ (row : List ℕ). rowOrZeros 0 row) (c .row-at-points .ensures)
-    ∙ ap (λ (k : ℕ). rowOrZeros k (rowOf (a .w) (a .points) (tokens (a .count) (a .ops .now) (a .operands .now))))
+    ap (λ (row : List ℕ). rowOr 0 row) (c .row-at-points .ensures)
+    ∙ ap (λ (k : ℕ). rowOr k (rowOf (a .w) (a .points) (tokens (a .count) (a .ops .now) (a .operands .now))))
     (sym
     (refused-later 1 (sym (e1 .before .bad-count .ensures) ∙ e1 .if1 .left)
     (refused-later 2 (sym (e2 .before .bad-width .ensures) ∙ e2 .if2 .left)
@@ -100,7 +100,7 @@ returns-5 c =
     let e1 = e2 .before .before in
     let a = e1 .before .before .before .before .args in
     c .refused-row4 .ensures
-    ∙ ap (λ (k : ℕ). rowOrZeros k (rowOf (a .w) (a .points) (tokens (a .count) (a .ops .now) (a .operands .now))))
+    ∙ ap (λ (k : ℕ). rowOr k (rowOf (a .w) (a .points) (tokens (a .count) (a .ops .now) (a .operands .now))))
     (sym
     (refused-later 1 (sym (e1 .before .bad-count .ensures) ∙ e1 .if1 .left)
     (refused-later 2 (sym (e2 .before .bad-width .ensures) ∙ e2 .if2 .left)

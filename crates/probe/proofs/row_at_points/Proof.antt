@@ -3,20 +3,11 @@ use mathlib.Core.Path.{_≡_, refl, sym, _∙_}
 use Prim.Native.Nat.{ℕ, _-_, _≤_}
 use native.Mathlib.Omega.{arith}
 use borrow.Author.Needs.{needs}
-use lib.ListN.{length, length-set}
-use lib.ListN.{getD}
+use lib.ListN.{length, length-set, getD}
 use Rattle.arith.proofs.Fill.{Filled, filled-more, filled-all}
 use Rattle.expr.specs.Formula.{tokens}
 use Rattle.probe.specs.FormulaRow.{rowOf}
 use Rattle.probe.proofs.FormulaRows.{length-rowOf, getD-rowOf}
-use mathlib.Core.Path.{_≡_, refl, sym, _∙_}
-use Prim.Native.Nat.{ℕ, _-_, _≤_}
-use lib.ListN.{length, length-set}
-use Rattle.expr.specs.Formula.{tokens}
-use Rattle.probe.specs.FormulaRow.{rowOf}
-use mathlib.Core.Path.{_≡_, refl}
-use lib.ListN.{length}
-use Rattle.arith.proofs.Fill.{Filled}
 use Rattle.probe.proofs.row_at_points.Statement.{statement}
 use Rattle.probe.proofs.row_at_points.Tie as tie
 

@@ -4,10 +4,6 @@ use Prim.Native.Nat.{ℕ, _-_}
 use borrow.Author.Needs.{needs}
 use lib.ListN.{length}
 use Rattle.expr.specs.Formula.{tokens, isFormula}
-use mathlib.Core.Path.{_≡_, ap, _∙_}
-use Prim.Native.Nat.{ℕ, _-_}
-use lib.ListN.{length}
-use Rattle.expr.specs.Formula.{tokens, isFormula}
 use Rattle.probe.proofs.value_at.Statement.{statement}
 use Rattle.probe.proofs.value_at.Tie as tie
 

@@ -7,11 +7,6 @@ use borrow.Author.Needs.{needs}
 use Rattle.arith.specs.Refusal.{refuse}
 use Rattle.arith.proofs.Refusals.{within}
 use Rattle.simd.specs.Gates.{gateRow, rowOr}
-use mathlib.Core.Path.{sym, ap, _∙_}
-use mathlib.Core.Bool.{Bool}
-use Prim.Native.Nat.{ℕ, _-_}
-use Rattle.arith.specs.Refusal.{refuse}
-use Rattle.simd.specs.Gates.{gateRow, rowOr}
 use Rattle.simd.proofs.gate_apply.Statement.{statement}
 use Rattle.simd.proofs.gate_apply.Tie as tie
 

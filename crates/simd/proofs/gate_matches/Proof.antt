@@ -6,11 +6,6 @@ use borrow.Author.Needs.{needs}
 use Rattle.arith.specs.Refusal.{refuse, outcome}
 use Rattle.arith.proofs.Refusals.{within}
 use Rattle.simd.specs.Gates.{gateRow, sameRow}
-use mathlib.Core.Path.{sym, ap, _∙_}
-use mathlib.Core.Bool.{Bool}
-use Prim.Native.Nat.{_-_}
-use Rattle.arith.specs.Refusal.{refuse}
-use Rattle.simd.specs.Gates.{gateRow, sameRow}
 use Rattle.simd.proofs.gate_matches.Statement.{statement}
 use Rattle.simd.proofs.gate_matches.Tie as tie
 

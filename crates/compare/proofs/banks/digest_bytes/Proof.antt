@@ -1,7 +1,6 @@
 -- `compare::banks::digest_bytes` is safe: the place stays below n. Assumes nothing.
 use Prim.Native.Nat.{_-_, _≤_}
 use borrow.Author.Needs.{needs}
-use Prim.Native.Nat.{_-_, _≤_}
 use Rattle.compare.proofs.banks.digest_bytes.Statement.{statement}
 use Rattle.compare.proofs.banks.digest_bytes.Tie as tie
 

@@ -1,7 +1,6 @@
 -- `compare::check::points_same` is safe: the point stays below 16. Assumes nothing.
 use Prim.Native.Nat.{_-_, _≤_}
 use borrow.Author.Needs.{needs}
-use Prim.Native.Nat.{_-_, _≤_}
 use Rattle.compare.proofs.check.points_same.Statement.{statement}
 use Rattle.compare.proofs.check.points_same.Tie as tie
 

@@ -4,9 +4,6 @@ use Prim.Native.Nat.{_-_}
 use native.Mathlib.Omega.{arith}
 use borrow.Author.Needs.{needs}
 use lib.ListN.{length}
-use mathlib.Core.Path.{_≡_}
-use Prim.Native.Nat.{_-_}
-use lib.ListN.{length}
 use Rattle.compare.proofs.check.row_answer_is.Statement.{statement}
 use Rattle.compare.proofs.check.row_answer_is.Tie as tie
 

@@ -2,8 +2,6 @@
 use Prim.Native.Nat.{_-_, _≤_}
 use borrow.Author.Needs.{needs}
 use lib.ListN.{length}
-use Prim.Native.Nat.{_-_, _≤_}
-use lib.ListN.{length}
 use Rattle.compare.proofs.check.words_same.Statement.{statement}
 use Rattle.compare.proofs.check.words_same.Tie as tie
 

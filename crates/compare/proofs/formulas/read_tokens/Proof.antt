@@ -4,9 +4,6 @@ use Prim.Native.Nat.{_+_, _-_, _*_, _≤_}
 use native.Mathlib.Omega.{arith}
 use borrow.Author.Needs.{needs}
 use lib.ListN.{length, length-set}
-use mathlib.Core.Path.{_≡_}
-use Prim.Native.Nat.{_+_, _-_, _*_, _≤_}
-use lib.ListN.{length}
 use Rattle.compare.proofs.formulas.read_tokens.Statement.{statement}
 use Rattle.compare.proofs.formulas.read_tokens.Tie as tie
 

@@ -5,8 +5,6 @@ use native.Mathlib.Omega.{arith}
 use borrow.Author.Needs.{needs}
 use lib.ListN.{getD}
 use lib.Seq.{length-take-le}
-use mathlib.Core.Path.{sym}
-use Prim.Native.Nat.{_-_}
 use Rattle.compare.proofs.formulas.refusal_same.Statement.{statement}
 use Rattle.compare.proofs.formulas.refusal_same.Tie as tie
 

@@ -3,8 +3,6 @@ use Prim.Native.Nat.{_-_}
 use native.Mathlib.Omega.{arith}
 use borrow.Author.Needs.{needs}
 use lib.ListN.{length-set}
-use Prim.Native.Nat.{_-_}
-use lib.ListN.{length-set}
 use Rattle.compare.proofs.scan.store.Statement.{statement}
 use Rattle.compare.proofs.scan.store.Tie as tie
 

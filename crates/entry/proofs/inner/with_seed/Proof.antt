@@ -3,7 +3,6 @@ use mathlib.Core.Path.{_≡_, refl}
 use lib.ListN.{length}
 use native.Mathlib.Omega.{arith}
 use Rattle.entry.proofs.SeedLaws.{seed-zero, seed-full, seed-taken}
-use mathlib.Core.Path.{refl}
 use borrow.Author.Needs.{needs}
 use Rattle.entry.proofs.inner.with_seed.Statement.{statement}
 use Rattle.entry.proofs.inner.with_seed.Tie as tie

@@ -3,7 +3,6 @@ use Prim.Native.Nat.{_-_}
 use borrow.Author.Needs.{needs}
 use borrow.Author.Tests.{lt-ltb, le-ltb}
 use Rattle.index.proofs.Passing.{or-last}
-use Prim.Native.Nat.{_-_}
 use Rattle.index.proofs.inner.too_short.Statement.{statement}
 use Rattle.index.proofs.inner.too_short.Tie as tie
 

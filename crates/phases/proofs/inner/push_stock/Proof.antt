@@ -3,7 +3,7 @@ use mathlib.Core.Path.{refl, sym, _∙_}
 use borrow.Author.Needs.{needs}
 use borrow.Author.Tests.{not-true, not-false}
 use lib.ListN.{length}
-use Rattle.entry.specs.Cursor.{restOf}
+use Rattle.stock.specs.Cursor.{restOf}
 use Rattle.pool.specs.Pool.{arrays}
 use Rattle.turns.proofs.Phasing.{Kept}
 use Rattle.phases.proofs.Stocking.{Stocking, stocking-none, stocking-few, stocking-less, stocking-more, stocking-done}

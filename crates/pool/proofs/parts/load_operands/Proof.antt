@@ -1,79 +1,53 @@
--- `pool::parts::load_operands` meets its contract: the places passed hold the elements of the part. Assumes nothing.
-use mathlib.Core.Path.{_≡_, refl}
-use Prim.Native.Nat.{ℕ, _+_, _-_, _≤_}
-use native.Mathlib.Omega.{arith}
+-- `pool::parts::load_operands` meets its contract: the part that is copied is the slot's. Assumes nothing.
+use mathlib.Core.Path.{_∙_}
 use borrow.Author.Needs.{needs}
-use lib.ListN.{length, getD, length-set}
-use Rattle.arith.specs.Parts.{partAt}
-use Rattle.arith.proofs.Fill.{Filled, filled-more, filled-all}
-use Rattle.arith.proofs.Parts.{length-part, getD-part}
+use Rattle.arith.proofs.Parts.{part-is}
 use Rattle.pool.proofs.parts.load_operands.Statement.{statement}
 use Rattle.pool.proofs.parts.load_operands.Tie as tie
 
-abbrev Inv-loop : tie.InvT-loop
-Inv-loop operands base six₀ i₀ six i = (i ≤ 6) × ((length six ≡ 6) × Filled (λ (k : ℕ). getD operands (base + k) 0) six i)
-
-abbrev μ-loop : tie.MeasureT-loop
-μ-loop operands base six₀ i₀ six i = 6 - i
-
-cast-base : tie.Need-cast-base Inv-loop μ-loop
+cast-base : tie.Need-cast-base
 cast-base c = search needs
 
-mul-base : tie.Need-mul-base Inv-loop μ-loop
+mul-base : tie.Need-mul-base
 mul-base c = search needs
 
-loop-holds : tie.Need-loop-holds Inv-loop μ-loop
-loop-holds c = (search needs, (refl, λ k h. absurd (omega arith)))
+slice-aggregate-copy-words : tie.Need-slice-aggregate-copy-words
+slice-aggregate-copy-words c = search needs
 
-add-six : tie.Need-add-six Inv-loop μ-loop
-add-six c = search needs
+add-copy-words : tie.Need-add-copy-words
+add-copy-words c = search needs
 
-mul-six : tie.Need-mul-six Inv-loop μ-loop
-mul-six c = search needs
+mul-copy-words : tie.Need-mul-copy-words
+mul-copy-words c = search needs
 
-shared-slice-read-six : tie.Need-shared-slice-read-six Inv-loop μ-loop
-shared-slice-read-six c = search needs
+sub-copy-words : tie.Need-sub-copy-words
+sub-copy-words c = search needs
 
-mul-six-2 : tie.Need-mul-six-2 Inv-loop μ-loop
-mul-six-2 c = search needs
+part-copy-words-start : tie.Need-part-copy-words-start
+part-copy-words-start c = search needs
 
-array-write-six : tie.Need-array-write-six Inv-loop μ-loop
-array-write-six c = search needs
+part-copy-words-end : tie.Need-part-copy-words-end
+part-copy-words-end c = search needs
 
-add-i : tie.Need-add-i Inv-loop μ-loop
-add-i c = search needs
+copy-words-requires : tie.Need-copy-words-requires
+copy-words-requires c κs = search needs
 
-loop-less : tie.Need-loop-less Inv-loop μ-loop
-loop-less c = search needs
-
-loop-again : tie.Need-loop-again Inv-loop μ-loop
-loop-again c =
-    let t = c .before .before in
-    (omega arith, (simp length-set (omega arith), filled-more _ (t .loop .six) (t .loop .i) _ (omega arith) (t .loop .inv .1 .1) refl))
-
-returns : tie.Need-returns Inv-loop μ-loop
+returns : tie.Need-returns
 returns c =
-    let t = c .before in
-    let s = t .before .before .args in
-    let long = length-part 6 (s .operands .now) (s .slot .0) (omega arith) in
-    filled-all _ (t .loop .six) (partAt 6 (s .operands .now) (s .slot .0)) (t .loop .i) (omega arith) (omega arith) (t .loop .inv .1 .1)
-    (λ k h. getD-part 6 (s .operands .now) (s .slot .0) k (omega arith))
+    let s = c .before .before .before .before .before .before .args in
+    c .before .copy-words .ensures ∙ part-is 6 (s .operands .now) (s .slot .0)
 
 pub load-operands-spec : {M : Type 1} → statement M
 load-operands-spec =
     tie.close
     (tie.spec
-    Inv-loop
-    μ-loop
     cast-base
     mul-base
-    loop-holds
-    add-six
-    mul-six
-    shared-slice-read-six
-    mul-six-2
-    array-write-six
-    add-i
-    loop-less
-    loop-again
+    slice-aggregate-copy-words
+    add-copy-words
+    mul-copy-words
+    sub-copy-words
+    part-copy-words-start
+    part-copy-words-end
+    copy-words-requires
     returns)

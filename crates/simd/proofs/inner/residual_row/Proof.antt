@@ -6,9 +6,6 @@ use borrow.Author.Needs.{needs}
 use lib.ListN.{length, getD, length-set}
 use Rattle.arith.proofs.Fill.{Filled, filled-more, zipped}
 use Rattle.simd.specs.Gates.{residualOf, residualRow}
-use mathlib.Core.Path.{_≡_, refl}
-use Prim.Native.Nat.{ℕ, _-_, _≤_}
-use Rattle.simd.specs.Gates.{residualOf, residualRow}
 use Rattle.simd.proofs.inner.residual_row.Statement.{statement}
 use Rattle.simd.proofs.inner.residual_row.Tie as tie
 

@@ -9,10 +9,6 @@ use lib.ListN.{getD}
 use lib.Seq.{ext-getD}
 use Rattle.simd.specs.Gates.{gateOf, gateRow}
 use Rattle.simd.proofs.Rows.{length-gateRow, getD-gateRow, same-row-of, same-row-not}
-use mathlib.Core.Path.{_≡_}
-use Prim.Native.Nat.{ℕ, _-_, _≤_, _<_}
-use lib.ListN.{getD}
-use Rattle.simd.specs.Gates.{gateOf}
 use Rattle.simd.proofs.inner.row_matches.Statement.{statement}
 use Rattle.simd.proofs.inner.row_matches.Tie as tie
 

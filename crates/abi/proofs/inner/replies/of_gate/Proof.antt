@@ -1,6 +1,5 @@
 -- `replies::of_gate` meets its contract: refused before the call, or what the call answers. Assumes nothing.
-use mathlib.Core.Path.{_≡_, sym, _∙_}
-use mathlib.Core.Bool.{false}
+use mathlib.Core.Path.{sym, _∙_}
 use mathlib.Core.List.{List}
 use Prim.Native.Nat.{ℕ}
 use Rattle.simd.specs.declared.Gate.{Gate}

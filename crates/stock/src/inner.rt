@@ -1,0 +1,175 @@
+// What the bank's build calls with a width, a count and a place that it has tested.
+use crate::Cursor;
+use entry::Entry;
+use entry::Unary;
+use probe::Point;
+use simd::Gate;
+ghost use mathlib.Core.Path.{_≡_};
+ghost use mathlib.Core.List.{[], _∷_};
+ghost use Prim.Native.Nat.{_≤_, _<_};
+ghost use Rattle.simd.specs.declared.Gate.the-variants.{Add};
+ghost use Rattle.expr.specs.declared.Token.the-variants.{Variable, Binary, Neg};
+ghost use Rattle.atoms.specs.Bank.{atomOf};
+ghost use Rattle.entry.specs.Entry.{entryOf, IsConstant};
+ghost use Rattle.stock.specs.declared.Cursor.the-variants as Place;
+ghost use Rattle.stock.specs.Cursor.{Stands, firstOf, isDone, constantAt, variableAt, formOf, skipped, differenceFrom, nextOf};
+
+// Constants of the stock, the first of which are their own numbers: 0, 1, 2.
+const CONSTANTS: u32 = 4;
+
+const OWN_NUMBERS: u32 = 3;
+
+// Forms of each variable, and gates of each pair.
+const FORMS: u32 = 3;
+
+const GATES: u32 = 5;
+
+// Where the stock begins.
+pub fn first() -> Cursor
+    ensures { λ r. ⌜ r ≡ firstOf ⌝ }
+{
+    Cursor::Constant(0)
+}
+
+// Whether nothing of the stock is left.
+pub fn is_done(at: Cursor) -> bool
+    ensures { λ r. ⌜ r ≡ isDone at ⌝ }
+{
+    match at {
+        Cursor::Constant(_) => false,
+        Cursor::Variable(_, _) => false,
+        Cursor::Pair(_, _, _) => false,
+        Cursor::Difference(_, _) => false,
+        Cursor::Done => true,
+    }
+}
+
+fn constant_at(w: u32, k: u32) -> Entry
+    requires { ⌜ w ≤ 64 ⌝ }
+    ensures { λ r. ⌜ IsConstant w (constantAt w k) r ⌝ }
+{
+    if k < OWN_NUMBERS {
+        entry::inner::constant(w, k as u64)
+    } else {
+        entry::inner::constant(w, arith::bitmask(w))
+    }
+}
+
+fn variable_at(w: u32, points: [Point; 16], i: u32, k: u32) -> Entry
+    requires { ⌜ (w ≤ 64) × (i < 6) ⌝ }
+    ensures { λ r. ⌜ r ≡ entryOf (atomOf w points (variableAt i k)) ⌝ }
+{
+    let v = entry::inner::variable(w, points, i);
+    if k == 0 {
+        return v;
+    }
+    if k == 1 {
+        return entry::inner::under_unary(v, Unary::Neg, w);
+    }
+    entry::inner::under_unary(v, Unary::Not, w)
+}
+
+fn pair_at(w: u32, points: [Point; 16], i: u32, j: u32, g: Gate) -> Entry
+    requires { ⌜ (w ≤ 64) × ((i < 6) × (j < 6)) ⌝ }
+    ensures { λ r. ⌜ r ≡ entryOf (atomOf w points (Variable i ∷ (Variable j ∷ (Binary g ∷ [])))) ⌝ }
+{
+    let a = entry::inner::variable(w, points, i);
+    let b = entry::inner::variable(w, points, j);
+    entry::inner::under_gate(a, b, g, true, true, w)
+}
+
+fn difference_at(w: u32, points: [Point; 16], i: u32, j: u32) -> Entry
+    requires { ⌜ (w ≤ 64) × ((i < 6) × (j < 6)) ⌝ }
+    ensures { λ r. ⌜ r ≡ entryOf (atomOf w points (Variable i ∷ (Variable j ∷ (Neg ∷ (Binary Add ∷ []))))) ⌝ }
+{
+    let a = entry::inner::variable(w, points, i);
+    let b = entry::inner::variable(w, points, j);
+    let minus = entry::inner::under_unary(b, Unary::Neg, w);
+    entry::inner::under_gate(a, minus, Gate::Add, true, true, w)
+}
+
+// The atom of the formula at a place.
+pub fn entry_at(at: Cursor, nv: u32, w: u32, points: [Point; 16]) -> Entry
+    requires { ⌜ (w ≤ 64) × Stands nv at ⌝ }
+    ensures { λ r. ⌜ r ≡ entryOf (atomOf w points (formOf w at)) ⌝ }
+{
+    match at {
+        Cursor::Constant(k) => constant_at(w, k),
+        Cursor::Variable(i, k) => variable_at(w, points, i, k),
+        Cursor::Pair(i, j, k) => pair_at(w, points, i, j, simd::inner::gate_at(k)),
+        Cursor::Difference(i, j) => difference_at(w, points, i, j),
+        Cursor::Done => entry::inner::constant(w, 0),
+    }
+}
+
+// The first difference from i and j on.
+fn difference_from(nv: u32, i: u32, j: u32) -> Cursor
+    requires { ⌜ (i < 6) × (j ≤ 6) ⌝ }
+    ensures { λ r. ⌜ r ≡ differenceFrom nv i j ⌝ }
+{
+    let at = skip(i, j);
+    if at < nv {
+        return Cursor::Difference(i, at);
+    }
+    if i + 1 < nv {
+        return Cursor::Difference(i + 1, 0);
+    }
+    Cursor::Done
+}
+
+// j, or the next where it is i.
+fn skip(i: u32, j: u32) -> u32
+    requires { ⌜ j ≤ 6 ⌝ }
+    ensures { λ r. ⌜ r ≡ skipped i j ⌝ }
+{
+    if i == j { j + 1 } else { j }
+}
+
+fn next_variable(nv: u32, i: u32, k: u32) -> Cursor
+    requires { ⌜ (i < 6) × (k < 3) ⌝ }
+    ensures { λ r. ⌜ r ≡ nextOf nv (Place.Variable i k) ⌝ }
+{
+    if k + 1 < FORMS {
+        return Cursor::Variable(i, k + 1);
+    }
+    if i + 1 < nv {
+        return Cursor::Variable(i + 1, 0);
+    }
+    Cursor::Pair(0, 0, 0)
+}
+
+fn next_pair(nv: u32, i: u32, j: u32, k: u32) -> Cursor
+    requires { ⌜ (i < 6) × ((j < 6) × (k < 5)) ⌝ }
+    ensures { λ r. ⌜ r ≡ nextOf nv (Place.Pair i j k) ⌝ }
+{
+    if k + 1 < GATES {
+        return Cursor::Pair(i, j, k + 1);
+    }
+    if j + 1 < nv {
+        return Cursor::Pair(i, j + 1, 0);
+    }
+    if i + 1 < nv {
+        return Cursor::Pair(i + 1, i + 1, 0);
+    }
+    difference_from(nv, 0, 0)
+}
+
+// The place after it.
+pub fn next(at: Cursor, nv: u32) -> Cursor
+    requires { ⌜ Stands nv at ⌝ }
+    ensures { λ r. ⌜ r ≡ nextOf nv at ⌝ }
+{
+    match at {
+        Cursor::Constant(k) => {
+            if k + 1 < CONSTANTS {
+                Cursor::Constant(k + 1)
+            } else {
+                Cursor::Variable(0, 0)
+            }
+        }
+        Cursor::Variable(i, k) => next_variable(nv, i, k),
+        Cursor::Pair(i, j, k) => next_pair(nv, i, j, k),
+        Cursor::Difference(i, j) => difference_from(nv, i, j + 1),
+        Cursor::Done => Cursor::Done,
+    }
+}
