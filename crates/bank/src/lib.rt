@@ -1,6 +1,6 @@
 // The bank, built into lent arrays: `try_template_decomposition` of template_decomposer.rs.
 use entry::ATOM_TOKENS;
-use pool::COST_NUMBERS;
+use parts::COST_NUMBERS;
 use pool::WORK_WORDS;
 use probe::Point;
 use simd::ATOMS_MAX;
@@ -8,7 +8,7 @@ use simd::ROW_WORDS;
 ghost use mathlib.Core.Path.{_≡_};
 ghost use Prim.Native.Nat.{_^_, _≤_};
 ghost use lib.ListN.{take};
-ghost use Rattle.pool.specs.Pool.{arrays};
+ghost use Rattle.parts.specs.Parts.{arrays};
 ghost use Rattle.simd.specs.Range.{reaches};
 ghost use Rattle.bank.specs.Build.{BankBuilt, tooSmall, pointsReach, bankRefusal};
 
