@@ -1,7 +1,7 @@
 // The refusals of a bank build.
 use crate::Sizes;
 use entry::ATOM_TOKENS;
-use pool::COST_NUMBERS;
+use parts::COST_NUMBERS;
 use pool::WORK_WORDS;
 use probe::Point;
 use simd::ATOMS_MAX;

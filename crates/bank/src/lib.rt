@@ -2,7 +2,7 @@
 pub mod inner;
 
 use probe::Point;
-ghost use Rattle.pool.specs.Pool.{arrays};
+ghost use Rattle.parts.specs.Parts.{arrays};
 ghost use Rattle.bank.specs.Build.{BankBuilt};
 
 // The lengths of the lent arrays.

@@ -2,7 +2,7 @@
 use bank::Sizes;
 use entry::ATOM_TOKENS;
 use pairs::PAIR_WORDS;
-use pool::COST_NUMBERS;
+use parts::COST_NUMBERS;
 use pool::WORK_WORDS;
 use probe::Point;
 use simd::ATOMS_MAX;
@@ -12,7 +12,7 @@ ghost use Prim.Native.Nat.{_+_, _≤_};
 ghost use lib.ListN.{length};
 ghost use Rattle.arith.specs.Refusal.{outsideOf};
 ghost use Rattle.atoms.specs.Stock.{bankOf};
-ghost use Rattle.pool.specs.Pool.{arrays};
+ghost use Rattle.parts.specs.Parts.{arrays};
 ghost use Rattle.turns.specs.Phases.{Asked};
 ghost use Rattle.print.specs.Text.{listingOf};
 ghost use Rattle.print.specs.Printing.{Wrote, textMax};

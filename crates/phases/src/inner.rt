@@ -2,7 +2,8 @@
 use probe::Point;
 ghost use Rattle.atoms.specs.Stock.{bankOf};
 ghost use Rattle.atoms.specs.Facts.{baseOf};
-ghost use Rattle.pool.specs.Pool.{arrays, Ready};
+ghost use Rattle.parts.specs.Parts.{arrays};
+ghost use Rattle.pool.specs.Pool.{Ready};
 ghost use Rattle.turns.specs.Phases.{Asked, Holding, Phase, Fits, turnedOf};
 
 // The stock into an empty bank: the count.

@@ -9,34 +9,24 @@ use borrow.Author.Count.{below-more}
 use lib.ListN.{length, getD, set, length-append, length-set, List·getD-append}
 use lib.Seq.{getD-at, getD-set-same, getD-set-other}
 use Rattle.arith.specs.Parts.{partAt, putPart}
-use Rattle.arith.proofs.Parts.{getD-part, encode-same}
-use Rattle.expr_cost.specs.declared.Cost.{Cost}
+use Rattle.arith.proofs.Parts.{encode-same}
 use Rattle.expr_cost.specs.Cost.{isBetter}
 use Rattle.valmap.specs.Map.{cleared, Hit, Miss}
 use Rattle.valmap.proofs.MapLaws.{held-empty}
 use Rattle.atoms.specs.Bank.{Atom, noAtom, push}
 use Rattle.atoms.specs.Encoding.{padTo, rowPart, Arrays, written}
 use Rattle.atoms.proofs.Pushes.{First, Absent, distinct-first, push-new, replaced, push-held, push-better, push-worse, push-cases}
-use Rattle.atoms.proofs.Encodings.{row-full, written-none, written-set, written-add, length-at, ops-at, operands-at, cost-at, row-at}
+use Rattle.atoms.proofs.Encodings.{row-full, written-none, written-set, written-add, row-at}
 use Rattle.atoms.proofs.Soundness.{push-distinct}
 use Rattle.entry.specs.declared.Entry.{Entry}
 use Rattle.entry.specs.Entry.{entryOf}
-use Rattle.pool.specs.Pool.{arrays, Texts, texts, textsOf, putText, putEntry, TextRoom, Ready, IsBank, heldCost, putBetter, Appended, Pushed, Started, Loaded}
-
--- three elements stored, one after the other
-pub three-stored : (l : List ℕ) (a b c : ℕ) → length l ≡ 3 → set (set (set l 0 a) 1 b) 2 c ≡ a ∷ (b ∷ (c ∷ []))
-three-stored [] a b c h = absurd (omega arith)
-three-stored (x ∷ []) a b c h = absurd (omega arith)
-three-stored (x ∷ (y ∷ [])) a b c h = absurd (omega arith)
-three-stored (x ∷ (y ∷ (z ∷ []))) a b c h = refl
-three-stored (x ∷ (y ∷ (z ∷ (w ∷ l)))) a b c h = absurd (omega arith)
+use Rattle.parts.specs.Parts.{arrays, Texts, textsOf, putText, TextRoom, putBetter}
+use Rattle.parts.proofs.Storing.{cost-held}
+use Rattle.pool.specs.Pool.{putEntry, Ready, IsBank, Appended, Pushed, Started}
 
 -- ---- the arrays by their fields
 abbrev withRows : Texts → List ℕ → Arrays
 withRows t rows = arrays (t .lengths) (t .ops) (t .operands) (t .costs) rows
-
-pub texts-are : {l l′ o o′ p p′ c c′ : List ℕ} → l ≡ l′ → o ≡ o′ → p ≡ p′ → c ≡ c′ → texts l o p c ≡ texts l′ o′ p′ c′
-texts-are el eo ep ec = λ i. texts (el i) (eo i) (ep i) (ec i)
 
 pub rows-with : {t t′ : Texts} {rows rows′ : List ℕ} → t ≡ t′ → rows ≡ rows′ → withRows t rows ≡ withRows t′ rows′
 rows-with et er = λ i. withRows (et i) (er i)
@@ -69,43 +59,6 @@ push-wide bank a long wide =
     push-cases Wide bank a (λ k f e. wide-set bank k a (f .below) long wide) (λ k f e. wide) (λ n. wide-add bank a long wide)
 
 -- ---- reading back
--- the cost that stands at a slot is the atom's
-cost-held : (bank : List Atom) (old : Arrays) (k : ℕ) → k < length bank → heldCost (written bank old .costs) k ≡ getD bank k noAtom .cost
-cost-held bank old k h = λ i. record { size = size i; products = products i; depth = depth i }
-  where
-    l : List ℕ
-    l = written bank old .costs
-
-    c : Cost
-    c = getD bank k noAtom .cost
-
-    size : getD l (3 * k) 0 ≡ c .size
-    size =
-        let e : 3 * k ≡ 3 * k + 0 = omega arith in
-        ap (λ (m : ℕ). getD l m 0) e ∙ sym (getD-part 3 l k 0 (omega arith)) ∙ ap (λ (z : List ℕ). getD z 0 0) (cost-at bank old k h)
-
-    products : getD l (3 * k + 1) 0 ≡ c .products
-    products = sym (getD-part 3 l k 1 (omega arith)) ∙ ap (λ (z : List ℕ). getD z 1 0) (cost-at bank old k h)
-
-    depth : getD l (3 * k + 2) 0 ≡ c .depth
-    depth = sym (getD-part 3 l k 2 (omega arith)) ∙ ap (λ (z : List ℕ). getD z 2 0) (cost-at bank old k h)
-
--- what is loaded from a slot is the atom there
-pub loaded : (now : Arrays) (k : ℕ) (ops operands row : List ℕ) (cost : Cost) → ops ≡ partAt 6 (now .ops) k → operands ≡ partAt 6 (now .operands) k
-    → cost ≡ heldCost (now .costs) k → row ≡ partAt 16 (now .rows) k
-    → Loaded now k (record { text = record { len = getD (now .lengths) k 0; ops = ops; operands = operands }; cost = cost; row = row })
-loaded now k ops operands row cost eo ep ec er = record { entry = entry }
-  where
-    entry : (old : Arrays) (bank : List Atom) → now ≡ written bank old → k < length bank → length (getD bank k noAtom .row) ≡ 16
-        → _≡_ {A = Entry} (record { text = record { len = getD (now .lengths) k 0; ops = ops; operands = operands }; cost = cost; row = row }) (entryOf (getD bank k noAtom))
-    entry old bank is h wide =
-        let l : getD (now .lengths) k 0 ≡ _ = ap (λ (z : Arrays). getD (z .lengths) k 0) is ∙ length-at bank old k h in
-        let o : ops ≡ _ = eo ∙ ap (λ (z : Arrays). partAt 6 (z .ops) k) is ∙ ops-at bank old k h in
-        let p : operands ≡ _ = ep ∙ ap (λ (z : Arrays). partAt 6 (z .operands) k) is ∙ operands-at bank old k h in
-        let c : cost ≡ _ = ec ∙ ap (λ (z : Arrays). heldCost (z .costs) k) is ∙ cost-held bank old k h in
-        let r : row ≡ _ = er ∙ ap (λ (z : Arrays). partAt 16 (z .rows) k) is ∙ row-at bank old k h wide in
-        λ i. record { text = record { len = l i; ops = o i; operands = p i }; cost = c i; row = r i }
-
 -- the row at a slot, by the arrays
 pub row-held : {old now : Arrays} {n : ℕ} {bank : List Atom} → IsBank old now n bank → (k : ℕ) → k < length bank → partAt 16 (now .rows) k ≡ getD bank k noAtom .row
 row-held {old} {now} {n} {bank} is k h = ap (λ (z : Arrays). partAt 16 (z .rows) k) (is .arrays) ∙ row-at bank old k h (is .wide k h)

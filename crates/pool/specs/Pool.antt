@@ -1,44 +1,15 @@
 -- The bank in 01's five lent arrays, with the map of its rows: what a push is called with and what it leaves. Assumes nothing.
 use mathlib.Core.Path.{_≡_}
-use mathlib.Core.Bool.{cond}
 use mathlib.Core.List.{List, [], _∷_}
 use Prim.Native.Nat.{ℕ, _+_, _*_, _≤_, _<_}
 use lib.ListN.{length, getD}
 use Rattle.arith.specs.Parts.{putPart}
-use Rattle.expr_cost.specs.declared.Cost.{Cost}
-use Rattle.expr_cost.specs.Cost.{isBetter}
 use Rattle.valmap.specs.Map.{Held}
 use Rattle.atoms.specs.Bank.{Atom, noAtom, push}
 use Rattle.atoms.specs.Encoding.{Arrays, written, costNumbers}
-use Rattle.entry.specs.declared.Formula.{Formula}
 use Rattle.entry.specs.declared.Entry.{Entry}
 use Rattle.entry.specs.Entry.{entryOf}
-
--- the lent arrays by their contents
-abbrev pub arrays : (lengths ops operands costs rows : List ℕ) → Arrays
-arrays l o p c r = record { lengths = l; ops = o; operands = p; costs = c; rows = r }
-
--- the four of them that hold formulas and costs
-pub record Texts : Type 0 where
-  pub lengths : List ℕ
-  pub ops : List ℕ
-  pub operands : List ℕ
-  pub costs : List ℕ
-
-abbrev pub texts : (lengths ops operands costs : List ℕ) → Texts
-texts l o p c = record { lengths = l; ops = o; operands = p; costs = c }
-
-abbrev pub textsOf : Arrays → Texts
-textsOf a = texts (a .lengths) (a .ops) (a .operands) (a .costs)
-
--- a formula and its cost stored at slot k
-abbrev pub putText : Texts → ℕ → Formula → Cost → Texts
-putText t k text cost = record {
-  lengths = putPart 1 (t .lengths) k (text .len ∷ []);
-  ops = putPart 6 (t .ops) k (text .ops);
-  operands = putPart 6 (t .operands) k (text .operands);
-  costs = putPart 3 (t .costs) k (costNumbers cost);
-}
+use Rattle.parts.specs.Parts.{Room}
 
 -- an atom stored at slot k
 abbrev pub putEntry : Arrays → ℕ → Entry → Arrays
@@ -49,17 +20,6 @@ putEntry a k e = record {
   costs = putPart 3 (a .costs) k (costNumbers (e .cost));
   rows = putPart 16 (a .rows) k (e .row);
 }
-
--- 01, From heap ..: lent arrays for 479 atoms: per atom one length, 6 opcodes, 6 operands, 3 cost numbers and 16 row words
-pub record TextRoom (t : Texts) : Type 0 where
-  pub lengths : 479 ≤ length (t .lengths)
-  pub ops : 6 * 479 ≤ length (t .ops)
-  pub operands : 6 * 479 ≤ length (t .operands)
-  pub costs : 3 * 479 ≤ length (t .costs)
-
-pub record Room (a : Arrays) : Type 0 where
-  pub texts : TextRoom (textsOf a)
-  pub rows : 16 * 479 ≤ length (a .rows)
 
 -- what a push into a bank of n atoms is called with, and what it leaves.
 -- 01, From heap ..: `ValMap` becomes a lent work area of 4 × (L + 479) u32; for the bank, L counts as 0. It holds the map of the first n rows
@@ -74,14 +34,6 @@ pub record IsBank (old now : Arrays) (n : ℕ) (bank : List Atom) : Type 0 where
   pub arrays : now ≡ written bank old
   pub wide : (k : ℕ) → k < length bank → length (getD bank k noAtom .row) ≡ 16
   pub distinct : (i j : ℕ) → i < j → j < length bank → getD bank i noAtom .row ≡ getD bank j noAtom .row → ⊥
-
--- the cost that stands at slot k
-abbrev pub heldCost : List ℕ → ℕ → Cost
-heldCost costs k = record { size = getD costs (3 * k) 0; products = getD costs (3 * k + 1) 0; depth = getD costs (3 * k + 2) 0 }
-
--- 01, Bank: a row already held replaces that slot's formula and cost exactly if strictly better
-abbrev pub putBetter : Texts → ℕ → Formula → Cost → Texts
-putBetter t k text cost = cond (isBetter cost (heldCost (t .costs) k)) (putText t k text cost) t
 
 -- 01, Bank: a new row gets the next slot
 pub record Appended (a a′ : Arrays) (work′ : List ℕ) (n : ℕ) (e : Entry) : Type 0 where
@@ -99,8 +51,3 @@ pub record Pushed (a a′ : Arrays) (work′ : List ℕ) (n : ℕ) (e : Entry) (
 pub record Started (work : List ℕ) : Type 0 where
   pub ready : (a : Arrays) → Room a → Ready a work 0
   pub bank : (old : Arrays) → IsBank old old 0 []
-
--- what `load_entry` gives: the atom at slot k, whatever bank the arrays hold
-pub record Loaded (now : Arrays) (k : ℕ) (r : Entry) : Type 0 where
-  pub entry : (old : Arrays) (bank : List Atom) → now ≡ written bank old → k < length bank → length (getD bank k noAtom .row) ≡ 16
-      → r ≡ entryOf (getD bank k noAtom)

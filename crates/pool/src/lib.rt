@@ -1,6 +1,5 @@
 // One atom pushed into the bank's five lent arrays and the map of its rows: `push` of template_decomposer.rs.
 pub mod inner;
-mod parts;
 
 use simd::ATOMS_MAX;
 
@@ -9,6 +8,3 @@ pub const MAP_BITS: u32 = 10;
 
 // The words of a bank's work area.
 pub const WORK_WORDS: usize = 4 * ATOMS_MAX;
-
-// The cost numbers of an atom.
-pub const COST_NUMBERS: usize = 3;

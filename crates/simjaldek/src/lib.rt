@@ -25,7 +25,7 @@ ghost use Rattle.expr_cost.specs.Cost.{isBetter};
 ghost use Rattle.probe.specs.Points.{drawn, madePoints};
 ghost use Rattle.probe.specs.FormulaRow.{probed};
 ghost use Rattle.probe.specs.Fingerprint.{fingerprintOf};
-ghost use Rattle.pool.specs.Pool.{arrays};
+ghost use Rattle.parts.specs.Parts.{arrays};
 ghost use Rattle.lookup.specs.Lookup.{found, handRefusal};
 ghost use Rattle.index.specs.Build.{arraysOf};
 ghost use Rattle.search.specs.Answer.{product};

@@ -19,7 +19,8 @@ use Rattle.atoms.proofs.Banks.{fine-tokens, base-few, before-turn-few, before-t
 use Rattle.entry.specs.declared.Entry.{Entry}
 use Rattle.entry.specs.declared.Unary.the-variants as U
 use Rattle.entry.specs.Entry.{entryOf, Extends, UnderUnary}
-use Rattle.pool.specs.Pool.{IsBank, Pushed, Loaded}
+use Rattle.parts.specs.Parts.{Loaded}
+use Rattle.pool.specs.Pool.{IsBank, Pushed}
 use Rattle.turns.specs.Phases.{Asked, Holding, Phase}
 use Rattle.turns.proofs.Phasing.{phase-on}
 

@@ -7,7 +7,8 @@ use Rattle.probe.specs.declared.Point.{Point}
 use Rattle.atoms.specs.Bank.{Atom, turns}
 use Rattle.atoms.specs.Encoding.{Arrays}
 use Rattle.atoms.specs.Facts.{baseOf}
-use Rattle.pool.specs.Pool.{Room, Ready, IsBank}
+use Rattle.parts.specs.Parts.{Room}
+use Rattle.pool.specs.Pool.{Ready, IsBank}
 
 -- a count and a width that are not refused
 pub record Asked (nv w : ℕ) : Type 0 where

@@ -9,7 +9,7 @@ ghost use lib.ListN.{length};
 ghost use Rattle.expr.specs.declared.Token.the-variants.{Not, Neg};
 ghost use Rattle.atoms.specs.Bank.{turn};
 ghost use Rattle.atoms.specs.Facts.{baseOf, beforeTurn};
-ghost use Rattle.pool.specs.Pool.{arrays};
+ghost use Rattle.parts.specs.Parts.{arrays};
 ghost use Rattle.turns.specs.Phases.{Asked, Holding, Phase, turnedOf};
 
 // One atom's turn: Neg and Not of its formula as it is now.
@@ -30,7 +30,7 @@ fn push_turn(
     requires { ⌜ Holding (arrays (now lengths) (now ops) (now operands) (now costs) (now rows)) (now work) n (beforeTurn nv w points (slot .0)) ⌝ }
     ensures { λ r. ⌜ Phase (arrays (now (lengths .entry)) (now (ops .entry)) (now (operands .entry)) (now (costs .entry)) (now (rows .entry))) (arrays (now (lengths .exit)) (now (ops .exit)) (now (operands .exit)) (now (costs .exit)) (now (rows .exit))) (now (work .exit)) r (turn w points (Neg ∷ (Not ∷ [])) (beforeTurn nv w points (slot .0)) (slot .0)) ⌝ }
 {
-    let e = pool::inner::load_entry(lengths, ops, operands, costs, rows, slot);
+    let e = parts::inner::load_entry(lengths, ops, operands, costs, rows, slot);
     let negated = entry::inner::under_unary(e, Unary::Neg, w);
     let inverted = entry::inner::under_unary(e, Unary::Not, w);
     let more = pool::inner::push(lengths, ops, operands, costs, rows, work, n, negated);

@@ -1,6 +1,6 @@
 -- `simjaldek_build_bank` meets its contract: refused before the call, or the code of what the call answers. Assumes nothing.
 use mathlib.Core.Path.{sym, _∙_}
-use Rattle.pool.specs.Pool.{arrays}
+use Rattle.parts.specs.Parts.{arrays}
 use Rattle.abi.proofs.Early.{both-long}
 use Rattle.simjaldek.proofs.Banks.{bank-early, bank-built}
 use native.Mathlib.Omega.{arith}

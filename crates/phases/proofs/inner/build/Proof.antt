@@ -3,7 +3,7 @@ use mathlib.Core.Path.{_∙_}
 use native.Mathlib.Omega.{arith}
 use borrow.Author.Needs.{needs}
 use Rattle.atoms.specs.Facts.{baseOf}
-use Rattle.pool.specs.Pool.{arrays}
+use Rattle.parts.specs.Parts.{arrays}
 use Rattle.turns.specs.Phases.{turnedOf}
 use Rattle.turns.proofs.Phasing.{holding}
 use Rattle.phases.proofs.Stocking.{build-on}

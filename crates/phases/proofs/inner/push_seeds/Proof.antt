@@ -4,7 +4,7 @@ use Prim.Native.Nat.{_-_, _≤_}
 use native.Mathlib.Omega.{arith}
 use borrow.Author.Needs.{needs}
 use lib.ListN.{length}
-use Rattle.pool.specs.Pool.{arrays}
+use Rattle.parts.specs.Parts.{arrays}
 use Rattle.turns.proofs.Phasing.{Kept}
 use Rattle.phases.proofs.Stocking.{Sowing, turned-few, sowing-none, sowing-more, sowing-done}
 use Rattle.phases.proofs.inner.push_seeds.Statement.{statement}

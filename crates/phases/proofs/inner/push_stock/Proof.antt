@@ -4,7 +4,7 @@ use borrow.Author.Needs.{needs}
 use borrow.Author.Tests.{not-true, not-false}
 use lib.ListN.{length}
 use Rattle.stock.specs.Cursor.{restOf}
-use Rattle.pool.specs.Pool.{arrays}
+use Rattle.parts.specs.Parts.{arrays}
 use Rattle.turns.proofs.Phasing.{Kept}
 use Rattle.phases.proofs.Stocking.{Stocking, stocking-none, stocking-few, stocking-less, stocking-more, stocking-done}
 use Rattle.phases.proofs.inner.push_stock.Statement.{statement}

@@ -8,7 +8,7 @@ use lib.ListN.{length}
 use Rattle.arith.specs.Parts.{putPart}
 use Rattle.arith.proofs.Parts.{put-is}
 use Rattle.valmap.proofs.MapLaws.{home-small, held-put-insert}
-use Rattle.pool.specs.Pool.{arrays, texts}
+use Rattle.parts.specs.Parts.{arrays, texts}
 use Rattle.pool.proofs.Pushing.{rows-with, room-kept}
 use Rattle.pool.proofs.inner.append.Statement.{statement}
 use Rattle.pool.proofs.inner.append.Tie as tie

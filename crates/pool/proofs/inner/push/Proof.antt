@@ -2,7 +2,7 @@
 use native.Mathlib.Omega.{arith}
 use borrow.Author.Needs.{needs}
 use Rattle.valmap.proofs.MapLaws.{lookup-at, lookup-free}
-use Rattle.pool.specs.Pool.{arrays, texts}
+use Rattle.parts.specs.Parts.{arrays, texts}
 use Rattle.pool.proofs.Pushing.{room-kept, pushed-held, pushed-new}
 use Rattle.pool.proofs.inner.push.Statement.{statement}
 use Rattle.pool.proofs.inner.push.Tie as tie

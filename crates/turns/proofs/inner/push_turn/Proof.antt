@@ -1,7 +1,7 @@
 -- `turns::inner::push_turn` meets its contract: what is loaded is the atom at the slot, and the two pushes are `turn`'s. Assumes nothing.
 use native.Mathlib.Omega.{arith}
 use borrow.Author.Needs.{needs}
-use Rattle.pool.specs.Pool.{arrays}
+use Rattle.parts.specs.Parts.{arrays}
 use Rattle.turns.proofs.Turning.{turn-slot, turn-room, turn-extends, turned}
 use Rattle.turns.proofs.inner.push_turn.Statement.{statement}
 use Rattle.turns.proofs.inner.push_turn.Tie as tie

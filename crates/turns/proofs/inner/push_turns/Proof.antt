@@ -6,7 +6,7 @@ use borrow.Author.Needs.{needs}
 use lib.ListN.{length}
 use Rattle.atoms.specs.Facts.{beforeTurn, baseOf}
 use Rattle.atoms.proofs.Banks.{base-few}
-use Rattle.pool.specs.Pool.{arrays}
+use Rattle.parts.specs.Parts.{arrays}
 use Rattle.turns.specs.Phases.{Phase}
 use Rattle.turns.proofs.Phasing.{Kept, holding}
 use Rattle.turns.proofs.Turning.{turns-first, turns-further}

@@ -1,9 +1,9 @@
--- `pool::parts::load_operands` meets its contract: the part that is copied is the slot's. Assumes nothing.
+-- `parts::inner::load_operands` meets its contract: the part that is copied is the slot's. Assumes nothing.
 use mathlib.Core.Path.{_∙_}
 use borrow.Author.Needs.{needs}
 use Rattle.arith.proofs.Parts.{part-is}
-use Rattle.pool.proofs.parts.load_operands.Statement.{statement}
-use Rattle.pool.proofs.parts.load_operands.Tie as tie
+use Rattle.parts.proofs.inner.load_operands.Statement.{statement}
+use Rattle.parts.proofs.inner.load_operands.Tie as tie
 
 cast-base : tie.Need-cast-base
 cast-base c = search needs

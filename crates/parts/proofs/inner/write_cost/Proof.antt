@@ -1,9 +1,9 @@
--- `pool::parts::write_cost` meets its contract: three stores make the whole part. Assumes nothing.
+-- `parts::inner::write_cost` meets its contract: three stores make the whole part. Assumes nothing.
 use native.Mathlib.Omega.{arith}
 use borrow.Author.Needs.{needs}
-use Rattle.pool.proofs.Pushing.{three-stored}
-use Rattle.pool.proofs.parts.write_cost.Statement.{statement}
-use Rattle.pool.proofs.parts.write_cost.Tie as tie
+use Rattle.parts.proofs.Storing.{three-stored}
+use Rattle.parts.proofs.inner.write_cost.Statement.{statement}
+use Rattle.parts.proofs.inner.write_cost.Tie as tie
 
 slice-write-part : tie.Need-slice-write-part
 slice-write-part c = search needs

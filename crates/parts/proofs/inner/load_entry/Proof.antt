@@ -1,9 +1,9 @@
--- `pool::inner::load_entry` meets its contract: the five parts of a slot are those of the atom there. Assumes nothing.
+-- `parts::inner::load_entry` meets its contract: the five parts of a slot are those of the atom there. Assumes nothing.
 use borrow.Author.Needs.{needs}
-use Rattle.pool.specs.Pool.{arrays}
-use Rattle.pool.proofs.Pushing.{loaded}
-use Rattle.pool.proofs.inner.load_entry.Statement.{statement}
-use Rattle.pool.proofs.inner.load_entry.Tie as tie
+use Rattle.parts.specs.Parts.{arrays}
+use Rattle.parts.proofs.Storing.{loaded}
+use Rattle.parts.proofs.inner.load_entry.Statement.{statement}
+use Rattle.parts.proofs.inner.load_entry.Tie as tie
 
 cast-at : tie.Need-cast-at
 cast-at c = search needs

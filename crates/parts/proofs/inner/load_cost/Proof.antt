@@ -1,8 +1,8 @@
--- `pool::parts::load_cost` meets its contract: it reads the three numbers of the slot. Assumes nothing.
+-- `parts::inner::load_cost` meets its contract: it reads the three numbers of the slot. Assumes nothing.
 use mathlib.Core.Path.{refl}
 use borrow.Author.Needs.{needs}
-use Rattle.pool.proofs.parts.load_cost.Statement.{statement}
-use Rattle.pool.proofs.parts.load_cost.Tie as tie
+use Rattle.parts.proofs.inner.load_cost.Statement.{statement}
+use Rattle.parts.proofs.inner.load_cost.Tie as tie
 
 cast-base : tie.Need-cast-base
 cast-base c = search needs

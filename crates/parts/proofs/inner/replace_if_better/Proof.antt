@@ -1,11 +1,11 @@
--- `pool::inner::replace_if_better` meets its contract: the cost that it compares with is the one at the slot. Assumes nothing.
+-- `parts::inner::replace_if_better` meets its contract: the cost that it compares with is the one at the slot. Assumes nothing.
 use mathlib.Core.Path.{sym, ap, _∙_}
 use mathlib.Core.Bool.{Bool, cond}
 use borrow.Author.Needs.{needs}
 use Rattle.expr_cost.specs.Cost.{isBetter}
-use Rattle.pool.specs.Pool.{texts, putText}
-use Rattle.pool.proofs.inner.replace_if_better.Statement.{statement}
-use Rattle.pool.proofs.inner.replace_if_better.Tie as tie
+use Rattle.parts.specs.Parts.{texts, putText}
+use Rattle.parts.proofs.inner.replace_if_better.Statement.{statement}
+use Rattle.parts.proofs.inner.replace_if_better.Tie as tie
 
 load-cost-requires : tie.Need-load-cost-requires
 load-cost-requires c κs = search needs

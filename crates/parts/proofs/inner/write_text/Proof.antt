@@ -1,4 +1,4 @@
--- `pool::inner::write_text` meets its contract: each part is lent, written, and back in its place. Assumes nothing.
+-- `parts::inner::write_text` meets its contract: each part is lent, written, and back in its place. Assumes nothing.
 use mathlib.Core.Path.{ap, _∙_}
 use mathlib.Core.List.{List}
 use Prim.Native.Nat.{ℕ}
@@ -6,9 +6,9 @@ use native.Mathlib.Omega.{arith}
 use borrow.Author.Needs.{needs}
 use Rattle.arith.specs.Parts.{putPart}
 use Rattle.arith.proofs.Parts.{put-is, put-one}
-use Rattle.pool.proofs.Pushing.{texts-are}
-use Rattle.pool.proofs.inner.write_text.Statement.{statement}
-use Rattle.pool.proofs.inner.write_text.Tie as tie
+use Rattle.parts.proofs.Storing.{texts-are}
+use Rattle.parts.proofs.inner.write_text.Statement.{statement}
+use Rattle.parts.proofs.inner.write_text.Tie as tie
 
 cast-at : tie.Need-cast-at
 cast-at c = search needs

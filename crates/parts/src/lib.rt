@@ -1,0 +1,5 @@
+// One atom's part of each of the bank's lent arrays: formula, cost and row of a slot.
+pub mod inner;
+
+// The cost numbers of an atom.
+pub const COST_NUMBERS: usize = 3;
