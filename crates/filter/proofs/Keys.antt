@@ -206,16 +206,21 @@ module _ (c : Residue) (small : Small c) where
     pub keys-passed : (a : ℕ) (s : Sweep) → s .left ≤ 0 → KeySettled c n rows order a s → KeysPassed c n rows order (s .at)
     keys-passed a s z k = record { within = k .sweeping .within; beyond = k .sweeping .beyond (omega arith) }
 
-    -- no word is of the tail where each is below 2^w
-    pub tail-empty : (a : ℕ) → ((k : ℕ) → wordAt rows order k < 2 ^ c .w) → KeysPassed c n rows order a → FirstOf (inClass c rows) n order a n
+    -- no word is of the tail where each from a on is below 2^w
+    pub tail-empty : (a : ℕ) → ((k : ℕ) → a ≤ k → k < n → wordAt rows order k < 2 ^ c .w) → KeysPassed c n rows order a → FirstOf (inClass c rows) n order a n
     tail-empty a words p = record {
       from = p .within;
       to = omega arith;
       skips = λ k l h.
           is-false (inClass c rows (getD order k 0)) (λ y.
-          lt-irrefl (wordAt rows order k) (lt-of-lt-of-le (words k) (p .beyond k l h y)));
+          lt-irrefl (wordAt rows order k) (lt-of-lt-of-le (words k l h) (p .beyond k l h y)));
       stops = λ h. absurd (omega arith);
     }
+
+    -- which each is where the last is
+    pub tail-below : Ordered n rows order → (a key v : ℕ) → key ≡ 2 ^ c .w → 0 < n → v ≡ wordAt rows order (n - 1) → v < key → KeysPassed c n rows order a → FirstOf (inClass c rows) n order a n
+    tail-below o a key v e some last lt p =
+        tail-empty a (λ k l h. let up = words-ascend n rows order o .up k (n - 1) (omega arith) (omega arith) in omega arith) p
 
     -- and else none is before the first place of the tail
     pub tail-before : (a key r : ℕ) → key ≡ 2 ^ c .w → KeysPassed c n rows order a → Lower n rows order a key r → Skips (inClass c rows) order a r

@@ -60,7 +60,7 @@ module _ (n : ℕ) (rows order samples : List ℕ) (m lo key u from : ℕ) (x : 
   ascends = words-ascend n rows order (x .ordered)
 
   -- the places up to the last of these samples have smaller words
-  sampled-before : (k : ℕ) → k + 16 ≤ sampleStep * u → wordAt rows order k < key
+  sampled-before : (k : ℕ) → k + sampleStep ≤ sampleStep * u → wordAt rows order k < key
   sampled-before k h =
       let j = u - 1 in
       let in-u : j < u = omega arith in

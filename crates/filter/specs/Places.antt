@@ -18,10 +18,11 @@ pub record Ordered (n : ℕ) (rows order : List ℕ) : Type 0 where
   pub order-fit : n ≤ length order
   pub is : isOrder n rows (take n order) ≡ true
 
+-- a sample is taken of each so many places; `SAMPLE_STEP` of src/inner.rt is the same number
 abbrev pub sampleStep : ℕ
-sampleStep = 16
+sampleStep = 64
 
--- m samples: number j is the first word at place 16 × j
+-- m samples: number j is the first word at place sampleStep × j
 pub record Sampled (n : ℕ) (rows order samples : List ℕ) (m : ℕ) : Type 0 where
   pub fit : m ≤ length samples
   pub within : (j : ℕ) → j < m → sampleStep * j < n

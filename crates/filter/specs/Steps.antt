@@ -16,7 +16,7 @@ pub record Ascends (f : ℕ → ℕ) (n : ℕ) : Type 0 where
 -- r is lo, or no later than the place after the last of u samples
 pub record AfterSamples (lo u r : ℕ) : Type 0 where
   pub from : lo ≤ r
-  pub to : lo < r → r + 15 ≤ sampleStep * u
+  pub to : lo < r → r + sampleStep ≤ sampleStep * u + 1
 
 -- all words from place `to` on are key or more
 pub record Window (n : ℕ) (rows order : List ℕ) (from to key : ℕ) : Type 0 where

@@ -22,7 +22,7 @@ pub struct Sweep {
 }
 
 // A sample is taken of each so many places.
-pub const SAMPLE_STEP: usize = 16;
+pub const SAMPLE_STEP: usize = 64;
 
 // The first word of the slot at place k.
 fn word_at(rows: &[u64], order: &[u32], n: usize, k: usize) -> u64
@@ -200,7 +200,15 @@ fn settle_tail(
     if class.w == 64 {
         return n;
     }
-    let from = lower(rows, order, n, samples, m, at, 1 << class.w);
+    if at == n {
+        return n;
+    }
+    // the last word is the largest: most lists have no word of 2^w or more
+    let top: u64 = 1 << class.w;
+    if word_at(rows, order, n, n - 1) < top {
+        return n;
+    }
+    let from = lower(rows, order, n, samples, m, at, top);
     scan_class(rows, order, n, class, from)
 }
 

@@ -3,7 +3,7 @@ use mathlib.Core.Path.{_≡_, sym, ap, ap₂, _∙_}
 use mathlib.Core.Bool.{true, false}
 use mathlib.Core.List.{List, [], _∷_, map, zipWith}
 use Prim.Native.Nat.{ℕ, zero, suc, _+_, _*_, _%_, _^_, _≤_, _<_}
-use native.Mathlib.Nat.{mod-eq-of-lt}
+use native.Mathlib.Nat.{mod-eq-of-lt, mul-comm}
 use native.Mathlib.Omega.{arith}
 use lib.ListN.{length, getD, length-map, List·getD-map}
 use lib.Pow.{pow-pos}
@@ -80,3 +80,9 @@ module _ (w : ℕ) (target xs ys : List ℕ) (a b : ℕ) (ok : Target w target) 
       let small : k < 16 = omega (arith, long, la) in
       row-word k small (omega (arith, la)) (omega (arith, lb)) ∙ each k small) in
       same-row-of (same ∙ sym wanted)
+
+-- rows that fit do so the other way round
+pub fits-swap : (w : ℕ) (target xs ys : List ℕ) (a b : ℕ) → Target w target → 16 * a + 16 ≤ length xs → 16 * b + 16 ≤ length ys → fitsAt w target xs a ys b ≡ true → fitsAt w target ys b xs a ≡ true
+fits-swap w target xs ys a b ok ha hb e =
+    fits-all w target ys xs b a ok hb ha (λ j h.
+    ap (λ (x : ℕ). x % 2 ^ w) (mul-comm (getD ys (16 * b + j) 0) (getD xs (16 * a + j) 0)) ∙ fits-lane w target xs ys a b ok e j h)

@@ -32,6 +32,10 @@ pub record FirstWords (rows : List ℕ) (count : ℕ) (firsts : List ℕ) : Type
   pub fit : count ≤ length firsts
   pub is : (k : ℕ) → k < count → getD firsts k 0 ≡ firstWord rows k
 
+-- no atom before a fits a
+pub record NoneBefore (w : ℕ) (target atoms : List ℕ) (a : ℕ) : Type 0 where
+  pub is : (b : ℕ) → b < a → fitsAt w target atoms a atoms b ≡ false
+
 -- what fits atom a is of the class
 pub record Narrows (w : ℕ) (target atoms : List ℕ) (a : ℕ) (listed : List ℕ) (class : Residue) : Type 0 where
   pub is : (s : ℕ) → fitsAt w target atoms a listed s ≡ true → inClass class listed s ≡ true

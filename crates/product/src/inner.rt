@@ -14,7 +14,7 @@ ghost use Rattle.filter.specs.Places.{Ordered, Sampled};
 ghost use Rattle.filter.specs.Sweeps.{Small};
 ghost use Rattle.product.specs.Trying.{fitting, slotsFor, withAtoms, withPairs, tryEverything};
 ghost use Rattle.product.specs.Stages.{Lent, foundSays};
-ghost use Rattle.product.specs.Steps.{fitsAt, Target, FirstWords, Narrows, Stopped, atomSays, pairSays};
+ghost use Rattle.product.specs.Steps.{fitsAt, Target, FirstWords, NoneBefore, Narrows, Stopped, atomSays, pairSays};
 
 // The first product that fits.
 pub enum Found {
@@ -41,11 +41,11 @@ struct RunStop {
     fits: bool,
 }
 
-// One sample of each sixteen pairs.
-const SAMPLES_MAX: usize = 16384;
+// Room for the samples of all pairs.
+const SAMPLES_MAX: usize = 4096;
 
 // With no more pairs than these, the samples cost more than they save.
-const UNSAMPLED_MAX: usize = 4096;
+const UNSAMPLED_MAX: usize = 16384;
 
 // Whether row a of xs times row b of ys is the target. Stops at the first word that isn't.
 fn fits(xs: &[u64], a: usize, ys: &[u64], b: usize, target: &[u64], w: u32) -> bool
@@ -76,7 +76,7 @@ fn copy_firsts(firsts: &mut [u64], atoms: &[u64], count: usize)
     }
 }
 
-// The first atom, ascending, that fits atom a. The first words sort out most.
+// The first atom, ascending, that fits atom a, which none before it does. The first words sort out most.
 fn first_atom(
     firsts: &[u64],
     atoms: &[u64],
@@ -85,12 +85,12 @@ fn first_atom(
     target: &[u64],
     w: u32,
 ) -> AtomFit
-    requires { ⌜ FirstWords (now atoms) count (now firsts) × (a < count) × (count ≤ 479) × (16 * count ≤ length (now atoms)) × Target w (now target) ⌝ }
+    requires { ⌜ FirstWords (now atoms) count (now firsts) × (a < count) × (count ≤ 479) × (16 * count ≤ length (now atoms)) × Target w (now target) × NoneBefore w (now target) (now atoms) a ⌝ }
     ensures { λ r. ⌜ atomSays r ≡ firstThat (fitsAt w (now (target .entry)) (now (atoms .entry)) a (now (atoms .entry))) (countUp 0 count) ⌝ }
 {
     let p = firsts[a];
     let t = target[0];
-    let mut b: usize = 0;
+    let mut b: usize = a;
     while b < count {
         if arith::mod_mul(p, firsts[b], w) == t {
             if fits(atoms, a, atoms, b, target, w) {
@@ -165,7 +165,7 @@ fn first_of_class(
     PairFit::Nothing
 }
 
-// The first listed pair, by slot, that fits atom a.
+// The first listed pair, by slot, that fits atom a. The second words sort out most: where no filter is used, any first word may fit.
 fn first_by_slot(
     atoms: &[u64],
     a: usize,
@@ -177,11 +177,15 @@ fn first_by_slot(
     requires { ⌜ (16 * a + 16 ≤ length (now atoms)) × (n ≤ 262144) × (16 * n ≤ length (now listed)) × Target w (now target) ⌝ }
     ensures { λ r. ⌜ pairSays r ≡ firstThat (fitsAt w (now (target .entry)) (now (atoms .entry)) a (now (listed .entry))) (countUp 0 n) ⌝ }
 {
+    let p = atoms[simd::ROW_WORDS * a + 1];
+    let t = target[1];
     let mut s: usize = 0;
     while s < n {
-        if fits(atoms, a, listed, s, target, w) {
-            let slot = s as u32;
-            return PairFit::At(PairSlot(slot));
+        if arith::mod_mul(p, listed[simd::ROW_WORDS * s + 1], w) == t {
+            if fits(atoms, a, listed, s, target, w) {
+                let slot = s as u32;
+                return PairFit::At(PairSlot(slot));
+            }
         }
         s += 1;
     }
@@ -220,7 +224,7 @@ fn first_pair(
     first_by_slot(atoms, a, listed, n, target, w)
 }
 
-// Every atom with every atom, both ascending.
+// Every atom with every atom, both ascending. Products commute: an atom that fitted an earlier one was found with that one.
 fn search_atoms(firsts: &[u64], atoms: &[u64], count: usize, target: &[u64], w: u32) -> Found
     requires { ⌜ FirstWords (now atoms) count (now firsts) × (count ≤ 479) × (16 * count ≤ length (now atoms)) × Target w (now target) ⌝ }
     ensures { λ r. ⌜ ((listed : List ℕ) → foundSays r ≡ firstThat (fitting w (now (atoms .entry)) listed (now (target .entry))) (withAtoms count)) ⌝ }

@@ -3,7 +3,7 @@ use mathlib.Core.Path.{_≡_, refl, sym, ap, _∙_, subst}
 use mathlib.Core.Bool.{Bool, true, false, cond}
 use mathlib.Core.Logic.{_⊎_, inl, inr}
 use mathlib.Core.List.{List, [], _∷_, _++_, map}
-use mathlib.Core.Option.{none, Option·none-ne-some}
+use mathlib.Core.Option.{none}
 use Prim.Native.Nat.{ℕ, _+_, _*_, _%_, _^_, _<_}
 use native.Mathlib.Omega.{arith}
 use lib.ListN.{length, getD, length-map}
@@ -19,19 +19,11 @@ use Rattle.order.proofs.OrderLaws.{order-length, order-exactly, order-below, or
 use Rattle.solve.specs.Equation.{used}
 use Rattle.atoms.proofs.Lists.{getD-map}
 use Rattle.product.specs.Trying.{Product, fits, fitting, slotsFor, withAtoms, withPairs, tryEverything}
+use Rattle.product.proofs.Turns.{none-passes}
 use Rattle.search.specs.Demand.{Equal}
 
--- ---- the first of a list that passes: none exactly if none does
+-- ---- the first of a list that passes: there is none if none does
 module _ {A : Type 0} (test : A → Bool) where
-  pub none-passes : (l : List A) → firstThat test l ≡ none → (x : A) → In x l → test x ≡ false
-  none-passes [] e x h = absurd h
-  none-passes (y ∷ l) e x h = go (bool-cases (test y)) h (λ f i. none-passes l f x i)
-    where
-      go : (test y ≡ true) ⊎ (test y ≡ false) → In x (y ∷ l) → (firstThat test l ≡ none → In x l → test x ≡ false) → test x ≡ false
-      go (inl p) i rest = absurd (Option·none-ne-some y (sym e ∙ first-yes test y l p))
-      go (inr p) (inl q) rest = ap test q ∙ p
-      go (inr p) (inr i) rest = rest (sym (first-no test y l p) ∙ e) i
-
   pub passes-none : (l : List A) → ((x : A) → In x l → test x ≡ false) → firstThat test l ≡ none
   unfolding firstThat
   passes-none [] h = refl

@@ -40,7 +40,11 @@ after-samples-requires c κs =
     (omega (arith, s .pre .2, s .pre .0 .most), omega (arith, few, c .count-below .ensures .to))
 
 mul-lower-between : tie.Need-mul-lower-between
-mul-lower-between c = search needs
+mul-lower-between c =
+    let s = c .before .before .before .before .before .before .before .before .before in
+    let a = s .args in
+    let few = samples-few (a .n) (a .rows .now) (a .order .now) (s .pre .0) (a .samples .now) (a .m) (s .pre .1) in
+    omega (arith, few, c .if3 .taken)
 
 -- what is known before the samples' places are searched
 narrowed : (c : tie.After-after-samples) → let a = c .before .before .before .before .before .before .before .before .args in Narrowed (a .n) (a .rows .now) (a .order .now) (a .samples .now) (a .m) (a .lo) (a .key) (c .before .count-below .result) (c .after-samples .result)

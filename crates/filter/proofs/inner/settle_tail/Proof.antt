@@ -1,4 +1,5 @@
--- `filter::inner::settle_tail` meets its contract: at 64 bits no word is 2^w or more, else those that are stand last. Assumes nothing.
+-- `filter::inner::settle_tail` meets its contract: at 64 bits no word is 2^w or more, nor where the last isn't, else those that are stand last.
+-- Assumes nothing.
 use mathlib.Core.Path.{_≡_, subst}
 use Prim.Native.Nat.{ℕ, _*_, _^_, _<_}
 use lib.ListN.{getD}
@@ -7,7 +8,7 @@ use native.Mathlib.Omega.{arith}
 use Rattle.arith.proofs.Remainders.{shl-one}
 use Rattle.filter.specs.Sweeps.{inClass}
 use Rattle.filter.proofs.PlaceLaws.{first-earlier}
-use Rattle.filter.proofs.Keys.{tail-empty, tail-before}
+use Rattle.filter.proofs.Keys.{tail-empty, tail-below, tail-before}
 use Rattle.filter.proofs.inner.settle_tail.Statement.{statement}
 use Rattle.filter.proofs.inner.settle_tail.Tie as tie
 
@@ -18,13 +19,39 @@ returns c =
     let a = s .args in
     let full : 64 ≡ a .class .w = omega (arith, c .if1 .taken) in
     tail-empty (a .class) (s .pre .2) (a .n) (a .rows .now) (a .order .now) (a .at)
-    (λ k. subst (λ (w : ℕ). getD (a .rows .now) (16 * getD (a .order .now) k 0) 0 < 2 ^ w) full (known .shared-slice-known .given (16 * getD (a .order .now) k 0) .fits)) (s .pre .3)
+    (λ k l h. subst (λ (w : ℕ). getD (a .rows .now) (16 * getD (a .order .now) k 0) 0 < 2 ^ w) full (known .shared-slice-known .given (16 * getD (a .order .now) k 0) .fits)) (s .pre .3)
 
-cast-lower : tie.Need-cast-lower
-cast-lower c = search needs
+returns-2 : tie.Need-returns-2
+returns-2 c =
+    let s = c .before .before .before .before .before .before in
+    let a = s .args in
+    tail-empty (a .class) (s .pre .2) (a .n) (a .rows .now) (a .order .now) (a .at) (λ k l h. absurd (omega (arith, c .if2 .taken))) (s .pre .3)
 
-shl-lower : tie.Need-shl-lower
-shl-lower c = search needs
+cast-top : tie.Need-cast-top
+cast-top c = search needs
+
+shl-top : tie.Need-shl-top
+shl-top c = search needs
+
+sub-word-at : tie.Need-sub-word-at
+sub-word-at c =
+    let s = c .before .before .before .before .before .before .before in
+    omega (arith, c .before .if2 .left, s .pre .3 .within)
+
+word-at-requires : tie.Need-word-at-requires
+word-at-requires c κs =
+    let s = c .before .before .before .before .before .before .before in
+    (s .pre .0, omega (arith, c .before .if2 .left, s .pre .3 .within))
+
+returns-3 : tie.Need-returns-3
+returns-3 c =
+    let word = c .before in
+    let test = word .before .before in
+    let s = test .before .before .before .before .before .before in
+    let a = s .args in
+    let small : a .class .w < 64 = omega (arith, s .pre .2 .width, test .before .if1 .left) in
+    tail-below (a .class) (s .pre .2) (a .n) (a .rows .now) (a .order .now) (s .pre .0) (a .at) _ (word .word-at .result) (shl-one small)
+    (omega (arith, test .if2 .left, s .pre .3 .within)) (word .word-at .ensures) (c .if3 .taken) (s .pre .3)
 
 lower-requires : tie.Need-lower-requires
 lower-requires c κs = search needs
@@ -32,10 +59,10 @@ lower-requires c κs = search needs
 scan-class-requires : tie.Need-scan-class-requires
 scan-class-requires c κs = search needs
 
-returns-2 : tie.Need-returns-2
-returns-2 c =
+returns-4 : tie.Need-returns-4
+returns-4 c =
     let low = c .before in
-    let test = low .before .before in
+    let test = low .before .before .before .before .before in
     let s = test .before .before .before .before .before in
     let a = s .args in
     let small : a .class .w < 64 = omega (arith, s .pre .2 .width, test .if1 .left) in
@@ -44,4 +71,15 @@ returns-2 c =
 
 pub settle-tail-spec : {M : Type 1} → statement M
 settle-tail-spec =
-    tie.close (tie.spec returns cast-lower shl-lower lower-requires scan-class-requires returns-2)
+    tie.close
+    (tie.spec
+    returns
+    returns-2
+    cast-top
+    shl-top
+    sub-word-at
+    word-at-requires
+    returns-3
+    lower-requires
+    scan-class-requires
+    returns-4)

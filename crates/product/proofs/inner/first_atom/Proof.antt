@@ -1,5 +1,5 @@
--- `product::inner::first_atom` meets its contract: from atom b on the first that fits is the first of all. Where the first products differ none fits.
--- Assumes nothing.
+-- `product::inner::first_atom` meets its contract: from atom b on the first that fits is the first of all, since none before a does. Where the first
+-- products differ none fits. Assumes nothing.
 use mathlib.Core.Path.{_≡_, sym, _∙_}
 use mathlib.Core.Bool.{false}
 use mathlib.Core.Logic.{inl, inr}
@@ -7,7 +7,7 @@ use Prim.Native.Nat.{_-_, _≤_}
 use Rattle.arith.specs.Lists.{countUp, firstThat}
 use Rattle.product.specs.Steps.{fitsAt}
 use Rattle.product.proofs.Slots.{first-not}
-use Rattle.product.proofs.Turns.{up-start, up-hit, up-miss, up-end}
+use Rattle.product.proofs.Turns.{up-from, up-hit, up-miss, up-end}
 use borrow.Author.Needs.{needs}
 use native.Mathlib.Omega.{arith}
 use Rattle.product.proofs.inner.first_atom.Statement.{statement}
@@ -34,8 +34,9 @@ shared-slice-read-t c =
 
 loop-holds : tie.Need-loop-holds Inv-loop μ-loop
 loop-holds c =
-    let a = c .before .before .before .before .before .args in
-    (omega arith, up-start (fitsAt (a .w) (a .target .now) (a .atoms .now) (a .a) (a .atoms .now)) (a .count))
+    let s = c .before .before .before .before .before in
+    let a = s .args in
+    (omega (arith, s .pre .1), up-from (fitsAt (a .w) (a .target .now) (a .atoms .now) (a .a) (a .atoms .now)) (a .count) (a .a) (omega (arith, s .pre .1)) (s .pre .5 .is))
 
 mul-mod-mul : tie.Need-mul-mod-mul Inv-loop μ-loop
 mul-mod-mul c = search needs

@@ -1,11 +1,18 @@
--- `product::inner::search_atoms` meets its contract: from atom a on the first trial that fits is the first of all. Assumes nothing.
+-- `product::inner::search_atoms` meets its contract: from atom a on the first trial that fits is the first of all, and no atom before a fits any.
+-- Assumes nothing.
 use mathlib.Core.Path.{_≡_, sym, ap, _∙_}
+use mathlib.Core.Bool.{true, false}
 use mathlib.Core.List.{List}
-use Prim.Native.Nat.{ℕ, _-_, _≤_}
+use mathlib.Core.Logic.{inl, inr}
+use Prim.Native.Nat.{ℕ, _-_, _≤_, _<_}
+use native.Mathlib.Nat.{eq-or-lt-of-le}
+use Rattle.arith.proofs.Lists.{is-false}
+use Rattle.arith.proofs.Refusals.{true-not-false}
 use Rattle.arith.specs.Lists.{firstThat}
 use Rattle.product.specs.Trying.{fitting, withAtoms}
-use Rattle.product.specs.Steps.{atomSays}
-use Rattle.product.proofs.Turns.{atomTrials, atoms-start, atoms-hit, atoms-miss, atoms-end}
+use Rattle.product.specs.Steps.{fitsAt, atomSays}
+use Rattle.product.proofs.Trials.{fits-swap}
+use Rattle.product.proofs.Turns.{up-none, atomTrials, atoms-start, atoms-hit, atoms-miss, atoms-end}
 use borrow.Author.Needs.{needs}
 use native.Mathlib.Omega.{arith}
 use Rattle.product.proofs.inner.search_atoms.Statement.{statement}
@@ -15,6 +22,7 @@ abbrev Inv-loop : tie.InvT-loop
 Inv-loop firsts atoms count target w a₀ a =
     (a ≤ count)
     × ((listed : List ℕ) → firstThat (fitting w atoms listed target) (atomTrials count a) ≡ firstThat (fitting w atoms listed target) (withAtoms count))
+    × ((k b : ℕ) → k < a → b < count → fitsAt w target atoms k atoms b ≡ false)
 
 abbrev μ-loop : tie.MeasureT-loop
 μ-loop firsts atoms count target w a₀ a = count - a
@@ -22,12 +30,26 @@ abbrev μ-loop : tie.MeasureT-loop
 loop-holds : tie.Need-loop-holds Inv-loop μ-loop
 loop-holds c =
     let a = c .before .before .before .args in
-    (omega arith, λ listed. atoms-start (a .w) (a .count) (a .atoms .now) listed (a .target .now))
+    (omega arith, λ listed. atoms-start (a .w) (a .count) (a .atoms .now) listed (a .target .now), λ k b l h. absurd (omega arith))
 
 first-atom-requires : tie.Need-first-atom-requires Inv-loop μ-loop
 first-atom-requires c κs =
+    let l = c .before .loop in
     let s = c .before .before .before .before .before in
-    (s .pre .0, omega arith, s .pre .1, s .pre .2, s .pre .3)
+    let a = s .args in (
+      s .pre .0,
+      omega arith,
+      s .pre .1,
+      s .pre .2,
+      s .pre .3,
+      record {
+        is = λ b h.
+            is-false (fitsAt (a .w) (a .target .now) (a .atoms .now) (l .a) (a .atoms .now) b) (λ e.
+            true-not-false
+            (sym (fits-swap (a .w) (a .target .now) (a .atoms .now) (a .atoms .now) (l .a) b (s .pre .3) (omega (arith, s .pre .2, c .loop-test .taken)) (omega (arith, h, s .pre .2, c .loop-test .taken)) e)
+            ∙ l .inv .2 b (l .a) h (c .loop-test .taken)));
+      },
+    )
 
 cast-slot : tie.Need-cast-slot Inv-loop μ-loop
 cast-slot c = search needs
@@ -56,10 +78,15 @@ loop-again : tie.Need-loop-again Inv-loop μ-loop
 loop-again c =
     let f = c .before .before in
     let l = f .before .before .loop in
-    let a = f .before .before .before .before .before .before .args in (
+    let a = f .before .before .before .before .before .before .args in
+    let test = fitsAt (a .w) (a .target .now) (a .atoms .now) (l .a) (a .atoms .now) in
+    let none-fits = ap atomSays (sym (c .enum-told .given .1)) ∙ f .first-atom .ensures in (
       omega arith,
-      λ listed. atoms-miss (a .w) (a .count) (a .atoms .now) listed (a .target .now) (l .a) (omega arith) (ap atomSays (sym (c .enum-told .given .1)) ∙ f .first-atom .ensures)
-          ∙ l .inv .1 listed,
+      λ listed. atoms-miss (a .w) (a .count) (a .atoms .now) listed (a .target .now) (l .a) (omega arith) none-fits ∙ l .inv .1 listed,
+      λ k b h below. elim (eq-or-lt-of-le {n = k} {m = l .a} (omega arith)) [
+        | inl e ↦ ap (λ (i : ℕ). fitsAt (a .w) (a .target .now) (a .atoms .now) i (a .atoms .now) b) e ∙ up-none test (a .count) none-fits b below
+        | inr lt ↦ l .inv .2 k b lt below
+      ],
     )
 
 returns-2 : tie.Need-returns-2 Inv-loop μ-loop
