@@ -3,6 +3,7 @@ use mathlib.Core.Bool.{_||_}
 use mathlib.Core.List.{List, map}
 use Prim.Native.Nat.{ℕ, _+_, _*_, _^_, _≤_}
 use lib.ListN.{length, take, drop}
+use Rattle.simd.specs.Limits.{atomsMax}
 use Rattle.arith.specs.Refusal.{refuse}
 use Rattle.probe.specs.declared.Point.{Point}
 use Rattle.pairs.specs.Index.{Index, allGates, indexOf}
@@ -38,7 +39,7 @@ bankIndex w L bank = indexOf w L allGates (map (λ (a : Atom). a .row) bank)
 -- arrays that are long enough for a bank and for an index of 500 pairs
 pub record Lent (a : Arrays) (work pairs listed slots : List ℕ) : Type 0 where
   pub bank : Fits a work
-  pub area : 4 * (500 + 479) ≤ length work
+  pub area : 4 * (500 + atomsMax) ≤ length work
   pub pairs-fit : 3 * 500 ≤ length pairs
   pub listed-fit : 16 * 500 ≤ length listed
   pub slots-fit : 500 ≤ length slots

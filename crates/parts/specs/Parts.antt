@@ -4,6 +4,7 @@ use mathlib.Core.Bool.{cond}
 use mathlib.Core.List.{List, [], _∷_}
 use Prim.Native.Nat.{ℕ, _+_, _*_, _≤_, _<_}
 use lib.ListN.{length, getD}
+use Rattle.simd.specs.Limits.{atomsMax}
 use Rattle.arith.specs.Parts.{putPart}
 use Rattle.expr_cost.specs.declared.Cost.{Cost}
 use Rattle.expr_cost.specs.Cost.{isBetter}
@@ -41,14 +42,14 @@ putText t k text cost = record {
 
 -- 01, From heap ..: lent arrays for 479 atoms: per atom one length, 6 opcodes, 6 operands, 3 cost numbers and 16 row words
 pub record TextRoom (t : Texts) : Type 0 where
-  pub lengths : 479 ≤ length (t .lengths)
-  pub ops : 6 * 479 ≤ length (t .ops)
-  pub operands : 6 * 479 ≤ length (t .operands)
-  pub costs : 3 * 479 ≤ length (t .costs)
+  pub lengths : atomsMax ≤ length (t .lengths)
+  pub ops : 6 * atomsMax ≤ length (t .ops)
+  pub operands : 6 * atomsMax ≤ length (t .operands)
+  pub costs : 3 * atomsMax ≤ length (t .costs)
 
 pub record Room (a : Arrays) : Type 0 where
   pub texts : TextRoom (textsOf a)
-  pub rows : 16 * 479 ≤ length (a .rows)
+  pub rows : 16 * atomsMax ≤ length (a .rows)
 
 -- the cost that stands at slot k
 abbrev pub heldCost : List ℕ → ℕ → Cost

@@ -3,6 +3,7 @@ use mathlib.Core.Path.{_≡_}
 use mathlib.Core.List.{List, [], _∷_}
 use Prim.Native.Nat.{ℕ, _+_, _*_, _≤_, _<_}
 use lib.ListN.{length, getD}
+use Rattle.simd.specs.Limits.{atomsMax}
 use Rattle.arith.specs.Parts.{putPart}
 use Rattle.valmap.specs.Map.{Held}
 use Rattle.atoms.specs.Bank.{Atom, noAtom, push}
@@ -25,7 +26,7 @@ putEntry a k e = record {
 -- 01, From heap ..: `ValMap` becomes a lent work area of 4 × (L + 479) u32; for the bank, L counts as 0. It holds the map of the first n rows
 pub record Ready (a : Arrays) (work : List ℕ) (n : ℕ) : Type 0 where
   pub room : Room a
-  pub area : 4 * 479 ≤ length work
+  pub area : 4 * atomsMax ≤ length work
   pub held : Held work (a .rows) 10 n
 
 -- the arrays hold the bank of n atoms, and past them what they held at first; rows are of sixteen words, and no two atoms share one

@@ -5,6 +5,7 @@ use mathlib.Core.List.{List, _∷_, _++_, flatMap}
 use Prim.Native.Nat.{ℕ, zero, suc, _+_, _*_, _≤_, _<_}
 use lib.ListN.{length, getD}
 use lib.Seq.{sets}
+use Rattle.simd.specs.Limits.{atomsMax}
 use Rattle.arith.specs.Lists.{countUp}
 use Rattle.arith.specs.Parts.{partAt, spread}
 use Rattle.expr.specs.declared.Token.{Token}
@@ -96,7 +97,7 @@ textMax = 131072
 
 -- n atoms of at most six tokens each, and m pairs, in arrays that are long enough
 pub record Shown (lengths ops operands costs : List ℕ) (n : ℕ) (pairs : List ℕ) (m : ℕ) : Type 0 where
-  pub few : n ≤ 479
+  pub few : n ≤ atomsMax
   pub lengths-fit : n ≤ length lengths
   pub ops-fit : 6 * n ≤ length ops
   pub operands-fit : 6 * n ≤ length operands

@@ -2,6 +2,7 @@
 use mathlib.Core.List.{List, [], _∷_}
 use Prim.Native.Nat.{ℕ, _*_, _≤_}
 use lib.ListN.{length}
+use Rattle.simd.specs.Limits.{atomsMax}
 use Rattle.expr.specs.declared.Token.the-variants.{Not, Neg}
 use Rattle.probe.specs.declared.Point.{Point}
 use Rattle.atoms.specs.Bank.{Atom, turns}
@@ -33,4 +34,4 @@ turnedOf nv w points = turns w points (Neg ∷ (Not ∷ [])) (baseOf nv w points
 -- 01, From heap ..: the sizes that a build needs
 pub record Fits (a : Arrays) (work : List ℕ) : Type 0 where
   pub room : Room a
-  pub area : 4 * 479 ≤ length work
+  pub area : 4 * atomsMax ≤ length work
