@@ -1,5 +1,5 @@
--- Rows of formulas, and atoms, from those of their operands: what Neg, Not and a gate make of a row. Assumes nothing.
-use mathlib.Core.Path.{_≡_, refl, ap, ap₂}
+-- Rows of formulas from those of their operands: what Neg, Not and a gate make of a row. Assumes nothing.
+use mathlib.Core.Path.{_≡_, refl, ap₂}
 use mathlib.Core.Bool.{true}
 use mathlib.Core.List.{List, [], _∷_, _++_, map, zipWith}
 use Prim.Native.Nat.{ℕ, zero, suc, _%_, _^_, _<_}
@@ -12,13 +12,8 @@ use Rattle.expr.specs.declared.Token.{Token}
 use Rattle.expr.specs.declared.Token.the-variants.{Constant, Binary, Not, Neg}
 use Rattle.expr.specs.Formula.{isFormula}
 use Rattle.evaluator.proofs.Formulas.{value-constant, value-not, value-neg, value-gate, value-lt}
-use Rattle.expr_cost.specs.declared.Cost.{Cost}
-use Rattle.expr_cost.specs.declared.CostInfo.{CostInfo}
-use Rattle.expr_cost.specs.Cost.{underUnary, leafCost, costOf}
-use Rattle.expr_cost.proofs.Formulas.{info-constant, info-not, info-neg}
 use Rattle.probe.specs.declared.Point.{Point}
 use Rattle.probe.specs.FormulaRow.{rowOf}
-use Rattle.atoms.specs.Bank.{Atom, atomOf}
 
 module _ (w : ℕ) where
   -- every word of a row is reduced
@@ -53,24 +48,3 @@ module _ (w : ℕ) where
     unfolding rowOf gateRow zipWith
     row-gate g j k [] = refl
     row-gate g j k (p ∷ points) = ap₂ (λ (x : ℕ) (l : List ℕ). x ∷ l) (value-gate w (p .words) nv f h g j k) (row-gate g j k points)
-
--- ---- whole atoms
-atom-is : (form : List Token) (c d : Cost) (r s : List ℕ) → c ≡ d → r ≡ s → _≡_ {A = Atom} (record { form = form; cost = c; row = r }) (record { form = form; cost = d; row = s })
-atom-is form c d r s p q = λ i. record { form = form; cost = p i; row = q i }
-
-module _ (w : ℕ) (points : List Point) where
-  -- the atom of a constant
-  pub atom-constant : (v : ℕ) → atomOf w points (Constant v ∷ []) ≡ record { form = Constant v ∷ []; cost = leafCost; row = replicate (length points) (v % 2 ^ w) }
-  unfolding atomOf
-  atom-constant v = atom-is (Constant v ∷ []) _ leafCost _ _ (ap (λ (c : CostInfo). c .cost) (info-constant v)) (row-constant w points v)
-
-  module _ (nv : ℕ) (f : List Token) (h : isFormula nv f ≡ true) where
-    -- the atom of f Neg, from f's cost and row
-    pub atom-neg : atomOf w points (f ++ (Neg ∷ [])) ≡ record { form = f ++ (Neg ∷ []); cost = underUnary (costOf f); row = map (negOf (2 ^ w)) (rowOf w points f) }
-    unfolding atomOf
-    atom-neg = atom-is (f ++ (Neg ∷ [])) _ (underUnary (costOf f)) _ _ (ap (λ (c : CostInfo). c .cost) (info-neg nv f h)) (row-neg w nv f h points)
-
-    -- the atom of f Not
-    pub atom-not : atomOf w points (f ++ (Not ∷ [])) ≡ record { form = f ++ (Not ∷ []); cost = underUnary (costOf f); row = map (notOf (2 ^ w)) (rowOf w points f) }
-    unfolding atomOf
-    atom-not = atom-is (f ++ (Not ∷ [])) _ (underUnary (costOf f)) _ _ (ap (λ (c : CostInfo). c .cost) (info-not nv f h)) (row-not w nv f h points)

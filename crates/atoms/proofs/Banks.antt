@@ -11,7 +11,7 @@ use Rattle.atoms.specs.Stock.{stock, seedsOf, bankOf}
 use Rattle.atoms.specs.Facts.{baseOf, beforeTurn, BankIsSound, BankIsComplete, BankIsWide}
 use Rattle.atoms.proofs.Lists.{Every}
 use Rattle.atoms.proofs.Growth.{pushAll-few, turns-few, built-few, built-formula, built-turn, built-seed}
-use Rattle.atoms.proofs.Soundness.{Fine, fine-fits, fits-tokens, sound-row, Unary, neg-unary, not-unary, Sound, sound-at, base-sound, turned-sound, base-at-turn, built-sound}
+use Rattle.atoms.proofs.Soundness.{Fine, fine-fits, fits-tokens, sound-row, Unary, neg-unary, not-unary, Sound, sound-at, base-at-turn, built-sound}
 use Rattle.atoms.proofs.Stocks.{stock-fits, stock-few, seeds-few}
 
 -- 01, Bank: Neg and Not
@@ -32,18 +32,10 @@ module _ (nv w : ℕ) (points : List Point) where
   pub base-few : nv ≤ 6 → length (baseOf nv w points) ≤ 157
   base-few h = omega (arith, pushAll-few w points [] (stock nv w), stock-few nv w h)
 
-  -- all sound and of size at most 5, no two of one row
-  pub stock-base-sound : Sound nv w points 5 (baseOf nv w points)
-  stock-base-sound = base-sound nv w points 5 (omega arith) (stock nv w) unaries (stock-fits nv w) unaries-unary
-
   module _ (t : ℕ) (h : t ≤ length (baseOf nv w points)) where
     -- two atoms more for each turn, at most
     pub before-turn-few : length (beforeTurn nv w points t) ≤ length (baseOf nv w points) + 2 * t
     before-turn-few = omega (arith, turns-few w points unaries (baseOf nv w points) 0 t)
-
-    -- all sound and of size at most 6, no two of one row
-    pub before-turn-sound : Sound nv w points 6 (beforeTurn nv w points t)
-    before-turn-sound = turned-sound nv w points 5 (omega arith) (stock nv w) unaries (stock-fits nv w) unaries-unary t h
 
     -- each base atom is still of size at most 5, and so of at most 5 tokens
     pub before-turn-small : (k : ℕ) → k < length (baseOf nv w points) → Fine nv w points 5 (getD (beforeTurn nv w points t) k noAtom)

@@ -12,7 +12,6 @@ use Rattle.expr.specs.declared.Token.{Token}
 use Rattle.expr.specs.declared.Token.the-variants.{Bad}
 use Rattle.expr.specs.Formula.{tokenOf, opcodeOf, operandOf, tokenAt, tokens}
 use Rattle.expr.proofs.Tokens.{token-in, token-back}
-use Rattle.expr_cost.specs.declared.Cost.{Cost}
 use Rattle.atoms.specs.Bank.{Atom, noAtom}
 use Rattle.atoms.specs.Encoding.{padTo, lengthPart, opsPart, operandsPart, costNumbers, costPart, rowPart, Arrays, written}
 use Rattle.atoms.proofs.Lists.{getD-map}
@@ -86,27 +85,6 @@ pub row-full : (a : Atom) → length (a .row) ≡ 16 → rowPart a ≡ a .row
 unfolding rowPart
 row-full a h = pad-full 16 0 (a .row) h
 
--- ---- a token added to a formula
-map-snoc : (f : Token → ℕ) (ts : List Token) (t : Token) → map f (ts ++ (t ∷ [])) ≡ map f ts ++ (f t ∷ [])
-map-snoc f [] t = refl
-map-snoc f (x ∷ ts) t = ap (λ (l : List ℕ). f x ∷ l) (map-snoc f ts t)
-
-pad-token : (d : ℕ) (f : Token → ℕ) (ts : List Token) (t : Token) → length ts < 6 → padTo 6 d (map f (ts ++ (t ∷ []))) ≡ set (padTo 6 d (map f ts)) (length ts) (f t)
-pad-token d f ts t h =
-    let e : length (map f ts) ≡ length ts = length-map ts f in
-    ap (padTo 6 d) (map-snoc f ts t) ∙ pad-more 6 d (map f ts) (f t) (omega arith) ∙ ap (λ (k : ℕ). set (padTo 6 d (map f ts)) k (f t)) e
-
-module _ (a b : Atom) (t : Token) (more : b .form ≡ a .form ++ (t ∷ [])) (room : length (a .form) < 6) where
-  -- its opcode goes in the first free place
-  pub ops-more : opsPart b ≡ set (opsPart a) (length (a .form)) (opcodeOf t)
-  unfolding opsPart
-  ops-more = ap (λ (ts : List Token). padTo 6 255 (map opcodeOf ts)) more ∙ pad-token 255 opcodeOf (a .form) t room
-
-  -- and so does its operand
-  pub operands-more : operandsPart b ≡ set (operandsPart a) (length (a .form)) (operandOf t)
-  unfolding operandsPart
-  operands-more = ap (λ (ts : List Token). padTo 6 0 (map operandOf ts)) more ∙ pad-token 0 operandOf (a .form) t room
-
 -- ---- one array: slot k replaced, one atom more, one part read back
 module _ (s : ℕ) (part : Atom → List ℕ) (wide : (a : Atom) → length (part a) ≡ s) (bank : List Atom) (old : List ℕ) where
   -- an atom replaced: its part put in its slot
@@ -172,13 +150,6 @@ module _ (bank : List Atom) (old : Arrays) (a : Atom) where
       (spread-add 16 rowPart row-wide bank (old .rows) a)
 
 -- ---- reading back
--- three numbers tell the cost
-pub numbers-cost : (c d : Cost) → costNumbers c ≡ costNumbers d → c ≡ d
-numbers-cost c d e = go (cc) (cc) (cc)
-  where
-    go : c .size ≡ d .size → c .products ≡ d .products → c .depth ≡ d .depth → c ≡ d
-    go p q r = λ i. record { size = p i; products = q i; depth = r i }
-
 pad-map : (d : ℕ) (f : Token → ℕ) (ts : List Token) (k : ℕ) → length ts ≤ 6 → k < length ts → getD (padTo 6 d (map f ts)) k 0 ≡ f (getD ts k Bad)
 pad-map d f ts k h m =
     let e : length (map f ts) ≡ length ts = length-map ts f in

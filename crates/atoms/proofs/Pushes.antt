@@ -124,10 +124,6 @@ push-length bank a =
     push-cases (λ (l : List Atom). (length l ≡ length bank) ⊎ (length l ≡ length bank + 1)) bank a
     (λ k f e. inl (length-set bank k a)) (λ k f e. inl refl) (λ n. inr (length-append bank (a ∷ [])))
 
--- it loses none
-pub push-longer : (bank : List Atom) (a : Atom) → length bank ≤ length (push bank a)
-push-longer bank a = elim (push-length bank a) [ inl e ↦ omega arith | inr e ↦ omega arith ]
-
 -- it adds one at most
 pub push-one-more : (bank : List Atom) (a : Atom) → length (push bank a) ≤ length bank + 1
 push-one-more bank a = elim (push-length bank a) [ inl e ↦ omega arith | inr e ↦ omega arith ]

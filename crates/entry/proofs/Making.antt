@@ -21,8 +21,7 @@ use Rattle.expr_cost.proofs.Formulas.{info-constant, info-variable, info-not, i
 use Rattle.probe.specs.declared.Point.{Point}
 use Rattle.probe.specs.FormulaRow.{rowOf}
 use Rattle.probe.proofs.FormulaRows.{length-rowOf, getD-rowOf}
-use Rattle.atoms.specs.Bank.{Atom, atomOf}
-use Rattle.atoms.specs.Facts.{SoundAtom}
+use Rattle.atoms.specs.Bank.{atomOf}
 use Rattle.atoms.specs.Encoding.{padTo, opsPart, operandsPart}
 use Rattle.atoms.proofs.Lists.{getD-map}
 use Rattle.atoms.proofs.AtomRows.{row-constant, row-neg, row-not, row-gate}
@@ -51,11 +50,6 @@ module _ (w : ℕ) (points : List Point) (ts : List Token) where
   pub entry-row : {e : Declared.Entry} → e ≡ entryOf (atomOf w points ts) → e .row ≡ rowOf w points ts
   unfolding atomOf opsPart operandsPart
   entry-row h = ap (λ (x : Declared.Entry). x .row) h
-
--- an atom of a sound bank is its formula's
-pub sound-entry : (nv w : ℕ) (points : List Point) (a : Atom) → SoundAtom nv w points a → entryOf a ≡ entryOf (atomOf w points (a .form))
-unfolding opsPart operandsPart
-sound-entry nv w points a s = entry-is w points (a .form) (entryOf a) refl (s .cost) (s .row)
 
 -- ---- one token
 -- what `constant` makes

@@ -6,7 +6,7 @@ use native.Mathlib.Numerals.{add-one}
 use native.Mathlib.Omega.{arith}
 use lib.Bits.{bitOr}
 use lib.ListN.{length, getD, take, drop, set, drop-of-length-le}
-use lib.Seq.{take-suc-set, drop-cons, length-take-le, getD-take}
+use lib.Seq.{take-suc-set, drop-cons}
 use Rattle.atoms.specs.Stock.{orAll, firstNonzero, seedsOf}
 use Rattle.entry.specs.declared.Seeds.{Seeds}
 use Rattle.entry.specs.Seeding.{seeded, AreSeeds, WithSeed}
@@ -118,13 +118,3 @@ seeding-done target s most i h p = record {
   few = omega (arith, p .few, p .limit);
   are = sym (ap (λ (z : List ℕ). seeded s ++ z) (ap (firstNonzero (most - s .count)) (drop-of-length-le target h) ∙ nothing-left (most - s .count)) ∙ append-nil (seeded s)) ∙ p .rest;
 }
-
--- ---- what a loop over the seeds needs
-module _ (target : List ℕ) (r : Seeds) (p : AreSeeds target r) where
-  -- as many seeds as are counted
-  pub seeds-count : length (r .words) ≡ 8 → length (seedsOf target) ≡ r .count
-  seeds-count h = ap length (sym (p .are)) ∙ length-take-le (r .count) (r .words) (omega (arith, p .few))
-
-  -- each of them
-  pub seed-at : (k : ℕ) → k < r .count → getD (r .words) k 0 ≡ getD (seedsOf target) k 0
-  seed-at k h = sym (getD-take (r .count) (r .words) k 0 h) ∙ ap (λ (l : List ℕ). getD l k 0) (p .are)

@@ -22,15 +22,6 @@ pub record Passed (rows l : List ℕ) (n word least i : ℕ) : Type 0 where
   pub start : i ≡ 0 → (word ≡ 0) × (least ≡ 0)
 
 module _ (rows l : List ℕ) (n : ℕ) where
-  pub passed-none : Passed rows l n 0 0 0
-  passed-none = record {
-    low = λ k h. absurd (omega arith);
-    ascends = λ k h. absurd (omega arith);
-    last = λ k e. absurd (omega arith);
-    past = λ k e. absurd (omega arith);
-    start = λ _. (refl, refl);
-  }
-
   module _ (word least i : ℕ) (p : Passed rows l n word least i) where
     pub passed-more : getD l i 0 < n → word ≤ firstWord rows (getD l i 0)
         → (firstWord rows (getD l i 0) ≡ word → least ≤ getD l i 0)

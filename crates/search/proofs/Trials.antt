@@ -1,7 +1,7 @@
 -- Laws of trying everything: what fits, which trials there are, and when none fits. Assumes nothing.
 use mathlib.Core.Path.{_≡_, refl, sym, ap, _∙_, subst}
 use mathlib.Core.Bool.{Bool, true, false, cond}
-use mathlib.Core.Logic.{_⊎_, inl, inr}
+use mathlib.Core.Logic.{inl, inr}
 use mathlib.Core.List.{List, [], _∷_, _++_, map}
 use mathlib.Core.Option.{none}
 use Prim.Native.Nat.{ℕ, _+_, _*_, _%_, _^_, _<_}
@@ -10,7 +10,7 @@ use lib.ListN.{length, getD, length-map}
 use lib.Seq.{ext-getD}
 use Rattle.arith.specs.Lists.{countUp, In, firstThat}
 use Rattle.arith.specs.Parts.{partAt}
-use Rattle.arith.proofs.Lists.{bool-cases, in-left, in-right, in-split, in-map, map-in, in-flat, flat-in, in-count, count-in, in-at, in-place, first-yes, first-no}
+use Rattle.arith.proofs.Lists.{in-left, in-right, in-split, in-map, map-in, in-flat, flat-in, in-count, count-in, in-at, in-place, first-no}
 use Rattle.simd.specs.Gates.{gateOf, gateRow}
 use Rattle.simd.specs.declared.Gate.the-variants.{Mul}
 use Rattle.simd.proofs.Rows.{length-gateRow, getD-gateRow, same-row-eq, same-row-of}

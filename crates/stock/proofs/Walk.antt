@@ -8,7 +8,6 @@ use native.Mathlib.Nat.{sub-zero}
 use native.Mathlib.Numerals.{add-one}
 use native.Mathlib.Omega.{arith}
 use lib.Dec.{eqb, ltb}
-use lib.ListN.{length}
 use borrow.Author.Tests.{eqb-true, ne-eqb, lt-ltb, le-ltb}
 use Rattle.arith.proofs.Remainders.{le-or-lt}
 use Rattle.arith.proofs.Refusals.{true-not-false}
@@ -17,7 +16,6 @@ use Rattle.expr.specs.declared.Token.{Token}
 use Rattle.expr.specs.declared.Token.the-variants as T
 use Rattle.arith.specs.Lists.{countUp}
 use Rattle.atoms.specs.Stock.{constants, ofVariable, gatesOf, differenceOf, stock}
-use Rattle.atoms.proofs.Stocks.{stock-few}
 use Rattle.stock.specs.declared.Cursor.{Cursor}
 use Rattle.stock.specs.declared.Cursor.the-variants.{Constant, Variable, Pair, Difference, Done}
 use Rattle.stock.specs.Cursor.{formOf, skipped, differenceFrom, nextOf, firstOf, isDone, WithinVariable, WithinPair, WithinDifference, Within, Stands, variablesFrom, pairsOf, pairsFrom, differencesOf, differencesFrom, restOf}
@@ -234,10 +232,6 @@ done-rest nv w (Variable i k) d = absurd (true-not-false (sym d))
 done-rest nv w (Pair i j k) d = absurd (true-not-false (sym d))
 done-rest nv w (Difference i j) d = absurd (true-not-false (sym d))
 done-rest nv w Done d = refl
-
--- 01, Bank: at most 157 formulas
-pub first-few : (nv w : ℕ) → nv ≤ 6 → length (restOf nv w firstOf) ≤ 157
-first-few nv w h = rw (first-rest nv w) (stock-few nv w h)
 
 -- ---- what the code's tests tell
 module _ (nv i j s : ℕ) (e : s ≡ skipped i j) where

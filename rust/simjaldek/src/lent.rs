@@ -6,9 +6,7 @@
 #![allow(unsafe_code)]
 
 use crate::ffi;
-use crate::{
-    AtomSlot, Cost, PairSlot, Point, Product, Refusal, Row, Token, ATOMS_MAX, ROW_WORDS,
-};
+use crate::{AtomSlot, Cost, PairSlot, Point, Product, Refusal, Row, Token, ATOMS_MAX, ROW_WORDS};
 
 /// Atoms' rows: `count` atoms, sixteen words each in `rows`.
 #[derive(Clone, Copy, Debug)]

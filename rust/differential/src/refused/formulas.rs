@@ -2,9 +2,7 @@
 
 use oracle::inputs::Inputs;
 use oracle::spec::formulas::Handed;
-use oracle::spec::refusals::{
-    NONE, REFUSED_FORMULA, REFUSED_LENGTH, REFUSED_VARS, REFUSED_WIDTH,
-};
+use oracle::spec::refusals::{NONE, REFUSED_FORMULA, REFUSED_LENGTH, REFUSED_VARS, REFUSED_WIDTH};
 use simjaldek::lent::{self, Tokens};
 use simjaldek::Token;
 

@@ -1,7 +1,6 @@
 -- `filter::inner::lower` meets its contract: the samples leave the places between two of them. Assumes nothing.
 use mathlib.Core.Path.{subst}
 use Prim.Native.Nat.{ℕ, _<_, _≤_}
-use borrow.Author.Needs.{needs}
 use native.Mathlib.Omega.{arith}
 use Rattle.filter.specs.Places.{wordAt}
 use Rattle.filter.proofs.Halving.{reached-here, reached-end}
