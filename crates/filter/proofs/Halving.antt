@@ -1,5 +1,5 @@
 -- Binary search over anything that ascends. Assumes nothing.
-use mathlib.Core.Path.{_≡_}
+use mathlib.Core.Path.{_≡_, subst}
 use Prim.Native.Nat.{ℕ, _+_, _≤_, _<_}
 use native.Mathlib.Decide.{decLt}
 use native.Mathlib.Omega.{arith}
@@ -75,4 +75,32 @@ reached-earlier f n lo from key r l low d = record {
   to = d .to;
   before = λ k a b. elim (decLt k from) [ yes h ↦ low k a h | no h ↦ d .before k (omega arith) b ];
   after = d .after;
+}
+
+-- ---- word by word, up to i
+-- f i is below the key, and so is all before it
+pub scan-below : (f : ℕ → ℕ) (n lo key i a : ℕ) → Ascends f n → i < n → f i < key → Reached f i lo key a → Reached f (i + 1) lo key (i + 1)
+scan-below f n lo key i a o h lt r = record {
+  from = omega (arith, r .from, r .to);
+  to = omega arith;
+  before = λ k l b. omega (arith, o .up k i (omega arith) h);
+  after = λ k l b. absurd (omega arith);
+}
+
+-- f i isn't
+pub scan-over : (f : ℕ → ℕ) (lo key i a : ℕ) → key ≤ f i → Reached f i lo key a → Reached f (i + 1) lo key a
+scan-over f lo key i a le r = record {
+  from = r .from;
+  to = omega (arith, r .to);
+  before = r .before;
+  after = λ k l b. elim (decLt k i) [ yes h ↦ r .after k l h | no h ↦ let e : i ≡ k = omega arith in subst (λ (j : ℕ). key ≤ f j) e le ];
+}
+
+-- the rest isn't
+pub scan-done : (f : ℕ → ℕ) (n lo key i a : ℕ) → i ≤ n → ((k : ℕ) → i ≤ k → k < n → key ≤ f k) → Reached f i lo key a → Reached f n lo key a
+scan-done f n lo key i a h rest r = record {
+  from = r .from;
+  to = omega (arith, r .to);
+  before = r .before;
+  after = λ k l b. elim (decLt k i) [ yes q ↦ r .after k l q | no q ↦ rest k (omega arith) b ];
 }

@@ -21,6 +21,9 @@ pub struct Sweep {
     pub left: u64,
 }
 
+// Of so few places each word is read. No read waits for another then, as it does in a search by halves.
+const SCANNED: usize = 4;
+
 // A sample is taken of each so many places.
 pub const SAMPLE_STEP: usize = 64;
 
@@ -78,14 +81,31 @@ fn after_samples(lo: usize, u: usize) -> usize
     SAMPLE_STEP * (u - 1) + 1
 }
 
-// The first place from `from` on whose first word is `key` or more, which is `to` at the latest.
+// The first place from `from` on whose first word is `key` or more, which is `to` at the latest, word by word.
+fn scan_lower(rows: &[u64], order: &[u32], n: usize, from: usize, to: usize, key: u64) -> usize
+    requires { ⌜ Ordered n (now rows) (now order) × Window n (now rows) (now order) from to key ⌝ }
+    ensures { λ r. ⌜ Lower n (now (rows .entry)) (now (order .entry)) from key r ⌝ }
+{
+    let mut a = from;
+    let mut i = from;
+    while i < to {
+        let k = i;
+        i += 1;
+        if word_at(rows, order, n, k) < key {
+            a = i;
+        }
+    }
+    a
+}
+
+// The same by halves, as long as there are many.
 fn lower_between(rows: &[u64], order: &[u32], n: usize, from: usize, to: usize, key: u64) -> usize
     requires { ⌜ Ordered n (now rows) (now order) × Window n (now rows) (now order) from to key ⌝ }
     ensures { λ r. ⌜ Lower n (now (rows .entry)) (now (order .entry)) from key r ⌝ }
 {
     let mut a = from;
     let mut b = to;
-    while a < b {
+    while b - a > SCANNED {
         let mid = a + (b - a >> 1);
         if word_at(rows, order, n, mid) < key {
             a = mid + 1;
@@ -93,7 +113,7 @@ fn lower_between(rows: &[u64], order: &[u32], n: usize, from: usize, to: usize, 
             b = mid;
         }
     }
-    a
+    scan_lower(rows, order, n, a, b, key)
 }
 
 // The first place from `lo` on whose first word is `key` or more. The m samples narrow the search before it reads rows.

@@ -1,10 +1,10 @@
--- `filter::inner::lower_between` meets its contract: binary search between `a` and `b`. Assumes nothing.
+-- `filter::inner::lower_between` meets its contract: what is looked for lies between `a` and `b`. Assumes nothing.
 use mathlib.Core.Path.{subst}
 use Prim.Native.Nat.{ℕ, _+_, _-_, _/_, _<_, _≤_}
 use borrow.Author.Needs.{needs}
 use native.Mathlib.Omega.{arith}
 use Rattle.filter.specs.Places.{wordAt}
-use Rattle.filter.proofs.Halving.{Seek, seek-start, seek-right, seek-left, seek-done}
+use Rattle.filter.proofs.Halving.{Seek, seek-start, seek-right, seek-left, reached-earlier}
 use Rattle.filter.proofs.Words.{words-ascend}
 use Rattle.filter.proofs.inner.lower_between.Statement.{statement}
 use Rattle.filter.proofs.inner.lower_between.Tie as tie
@@ -21,6 +21,9 @@ loop-holds c =
     let a = s .args in
     let w = s .pre .1 in
     seek-start (wordAt (a .rows .now) (a .order .now)) (a .n) (a .key) (a .from) (a .to) (w .up) (w .within) (w .after)
+
+sub-loop : tie.Need-sub-loop Inv-loop μ-loop
+sub-loop c = c .loop .inv .up
 
 sub-mid : tie.Need-sub-mid Inv-loop μ-loop
 sub-mid c = search needs
@@ -61,11 +64,17 @@ loop-again-2 c =
     let mid = l .a + (l .b - l .a) / 2 in
     seek-left (wordAt (a .rows .now) (a .order .now)) (a .n) (a .from) (a .key) (l .a) (l .b) mid (words-ascend (a .n) (a .rows .now) (a .order .now) (s .pre .0)) (omega arith) (omega arith) (l .inv) (subst (λ (x : ℕ). a .key ≤ x) (c .before .word-at .ensures) (c .if1 .left))
 
+scan-lower-requires : tie.Need-scan-lower-requires Inv-loop μ-loop
+scan-lower-requires c κs =
+    let i = c .before .loop .inv in
+    let s = c .before .before .before .before in
+    (s .pre .0, record { up = i .up; within = i .end; after = i .after })
+
 returns : tie.Need-returns Inv-loop μ-loop
 returns c =
-    let l = c .before .loop in
-    let a = c .before .before .before .before .args in
-    seek-done (wordAt (a .rows .now) (a .order .now)) (a .n) (a .from) (a .key) (l .a) (l .b) (omega arith) (l .inv)
+    let l = c .before .before .loop in
+    let a = c .before .before .before .before .before .args in
+    reached-earlier (wordAt (a .rows .now) (a .order .now)) (a .n) (a .from) (l .a) (a .key) (c .scan-lower .result) (l .inv .start) (l .inv .before) (c .scan-lower .ensures)
 
 pub lower-between-spec : {M : Type 1} → statement M
 lower-between-spec =
@@ -74,6 +83,7 @@ lower-between-spec =
     Inv-loop
     μ-loop
     loop-holds
+    sub-loop
     sub-mid
     add-mid
     word-at-requires
@@ -82,4 +92,5 @@ lower-between-spec =
     loop-again
     loop-less-2
     loop-again-2
+    scan-lower-requires
     returns)
