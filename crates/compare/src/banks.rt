@@ -96,7 +96,8 @@ pub fn points_at(line: &[u64], stride: usize) -> [Point; 16]
     points
 }
 
-pub fn target_at(line: &[u64], base: usize) -> [u64; 16]
+// A row from `base` on, zeros past the line's end.
+pub fn row_at(line: &[u64], base: usize) -> [u64; 16]
     requires { ⌜ base ≤ 1000 ⌝ }
 {
     let mut row = [0u64; 16];
@@ -122,7 +123,7 @@ pub fn bank_same(line: &[u64]) -> bool {
         return false;
     }
     let points = points_at(line, nv);
-    let target = target_at(line, at);
+    let target = row_at(line, at);
     built_is(line, points, target, at + 16)
 }
 
@@ -232,7 +233,7 @@ pub fn bank_refusal_same(line: &[u64]) -> bool {
         return false;
     }
     let points = points_at(line, 6);
-    let target = target_at(line, 99);
+    let target = row_at(line, 99);
     let sizes = Sizes {
         lengths: place(line[115]),
         ops: place(line[116]),

@@ -49,18 +49,6 @@ pub fn narrow(x: u64) -> u32 {
     }
 }
 
-fn row_at(line: &[u64], base: usize) -> [u64; 16]
-    requires { ⌜ base + 16 ≤ length (now line) ⌝ }
-{
-    let mut row = [0u64; 16];
-    let mut i: usize = 0;
-    while i < 16 {
-        row[i] = line[base + i];
-        i += 1;
-    }
-    row
-}
-
 // Whether the words stand in the line from `base` on.
 fn words_same(words: &[u64], line: &[u64], base: usize) -> bool
     requires { ⌜ base + length (now words) ≤ length (now line) ⌝ }
@@ -123,7 +111,7 @@ fn fingerprint_same(line: &[u64]) -> bool {
     if line.len() != 18 {
         return false;
     }
-    probe::fingerprint(row_at(line, 1)) == line[17]
+    probe::fingerprint(banks::row_at(line, 1)) == line[17]
 }
 
 // The refusal at place 3, and the answer's row from place 36 on.
@@ -146,8 +134,8 @@ fn gate_same(line: &[u64]) -> bool {
         return false;
     }
     let r = simd::gate_apply(
-        row_at(line, 4),
-        row_at(line, 20),
+        banks::row_at(line, 4),
+        banks::row_at(line, 20),
         gate_of(line[1]),
         narrow(line[2]),
     );
@@ -163,8 +151,8 @@ fn residual_same(line: &[u64]) -> bool {
         return false;
     }
     let r = simd::gate_residual(
-        row_at(line, 4),
-        row_at(line, 20),
+        banks::row_at(line, 4),
+        banks::row_at(line, 20),
         gate_of(line[1]),
         narrow(line[2]),
     );
@@ -180,9 +168,9 @@ fn matches_same(line: &[u64]) -> bool {
         return false;
     }
     let m = simd::gate_matches(
-        row_at(line, 5),
-        row_at(line, 21),
-        row_at(line, 37),
+        banks::row_at(line, 5),
+        banks::row_at(line, 21),
+        banks::row_at(line, 37),
         gate_of(line[1]),
         narrow(line[2]),
     );

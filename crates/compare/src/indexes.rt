@@ -62,7 +62,7 @@ pub fn index_same(line: &[u64]) -> bool {
         return false;
     }
     let points = banks::points_at(line, nv);
-    let target = banks::target_at(line, at);
+    let target = banks::row_at(line, at);
     let mut rows = [0u64; 7664];
     let count = banks::bank_rows(&mut rows, line, points, target);
     // no bank is empty

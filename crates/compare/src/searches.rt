@@ -133,7 +133,7 @@ pub fn product_same(line: &[u64]) -> bool {
         return false;
     }
     let points = banks::points_at(line, nv);
-    let target = banks::target_at(line, at);
+    let target = banks::row_at(line, at);
     let mut rows = [0u64; 7664];
     let count = banks::bank_rows(&mut rows, line, points, target);
     search_is(line, at + 16, count, &rows)
@@ -159,7 +159,7 @@ fn search_is(line: &[u64], at: usize, count: usize, rows: &[u64]) -> bool
         &mut work,
     );
     let n = pairs_of(built);
-    let row = banks::target_at(line, at + 2);
+    let row = banks::row_at(line, at + 2);
     let r = search::product_search(w, count, rows, n, &listed, &slots, row);
     product_is(r, line, at + 18)
 }

@@ -63,11 +63,7 @@ fn point_of(words: &[u64], k: usize) -> Point
 {
     let base = POINT_WORDS * k;
     let mut point = [0u64; POINT_WORDS];
-    let mut i: usize = 0;
-    while i < POINT_WORDS {
-        point[i] = words[base + i];
-        i += 1;
-    }
+    arith::inner::copy_words(&mut point, &words[base..base + POINT_WORDS]);
     Point { words: point }
 }
 

@@ -1,81 +1,55 @@
--- `slices::point_of` meets its contract: the places passed hold the words of the part. Assumes nothing.
-use mathlib.Core.Path.{_≡_, refl, ap}
+-- `slices::point_of` meets its contract: the part that is copied is the point's. Assumes nothing.
+use mathlib.Core.Path.{ap, _∙_}
 use mathlib.Core.List.{List}
-use Prim.Native.Nat.{ℕ, _+_, _-_, _≤_}
-use lib.ListN.{length, getD, length-set}
-use Rattle.arith.specs.Parts.{partAt}
-use Rattle.arith.proofs.Fill.{Filled, filled-more, filled-all}
-use Rattle.arith.proofs.Parts.{length-part, getD-part}
-use Rattle.probe.specs.declared.Point.{Point}
+use Prim.Native.Nat.{ℕ}
 use borrow.Author.Needs.{needs}
-use native.Mathlib.Omega.{arith}
+use Rattle.arith.proofs.Parts.{part-is}
+use Rattle.probe.specs.declared.Point.{Point}
 use Rattle.abi.proofs.inner.slices.point_of.Statement.{statement}
 use Rattle.abi.proofs.inner.slices.point_of.Tie as tie
+
+mul-base : tie.Need-mul-base
+mul-base c = search needs
+
+slice-aggregate-copy-words : tie.Need-slice-aggregate-copy-words
+slice-aggregate-copy-words c = search needs
+
+add-copy-words : tie.Need-add-copy-words
+add-copy-words c = search needs
+
+mul-copy-words : tie.Need-mul-copy-words
+mul-copy-words c = search needs
+
+sub-copy-words : tie.Need-sub-copy-words
+sub-copy-words c = search needs
+
+part-copy-words-start : tie.Need-part-copy-words-start
+part-copy-words-start c = search needs
+
+part-copy-words-end : tie.Need-part-copy-words-end
+part-copy-words-end c = search needs
+
+copy-words-requires : tie.Need-copy-words-requires
+copy-words-requires c κs = search needs
 
 abbrev point : List ℕ → Point
 point l = record { words = l }
 
-abbrev Inv-loop : tie.InvT-loop
-Inv-loop words k base point₀ i₀ point i = (i ≤ 6) × ((length point ≡ 6) × Filled (λ (j : ℕ). getD words (base + j) 0) point i)
-
-abbrev μ-loop : tie.MeasureT-loop
-μ-loop words k base point₀ i₀ point i = 6 - i
-
-mul-base : tie.Need-mul-base Inv-loop μ-loop
-mul-base c = search needs
-
-loop-holds : tie.Need-loop-holds Inv-loop μ-loop
-loop-holds c = (search needs, (refl, λ k h. absurd (omega arith)))
-
-add-point : tie.Need-add-point Inv-loop μ-loop
-add-point c = search needs
-
-mul-point : tie.Need-mul-point Inv-loop μ-loop
-mul-point c = search needs
-
-shared-slice-read-point : tie.Need-shared-slice-read-point Inv-loop μ-loop
-shared-slice-read-point c = search needs
-
-mul-point-2 : tie.Need-mul-point-2 Inv-loop μ-loop
-mul-point-2 c = search needs
-
-array-write-point : tie.Need-array-write-point Inv-loop μ-loop
-array-write-point c = search needs
-
-add-i : tie.Need-add-i Inv-loop μ-loop
-add-i c = search needs
-
-loop-less : tie.Need-loop-less Inv-loop μ-loop
-loop-less c = search needs
-
-loop-again : tie.Need-loop-again Inv-loop μ-loop
-loop-again c =
-    let t = c .before .before in
-    (omega arith, (simp length-set (omega arith), filled-more _ (t .loop .point) (t .loop .i) _ (omega arith) (t .loop .inv .1 .1) refl))
-
-returns : tie.Need-returns Inv-loop μ-loop
+returns : tie.Need-returns
 returns c =
-    let t = c .before in
-    let s = t .before .args in
-    let long = length-part 6 (s .words .now) (s .k) (omega arith) in
-    ap point
-    (filled-all _ (t .loop .point) (partAt 6 (s .words .now) (s .k)) (t .loop .i) (omega arith) (omega arith) (t .loop .inv .1 .1)
-    (λ k h. getD-part 6 (s .words .now) (s .k) k (omega arith)))
+    let s = c .before .before .before .before .before .args in
+    ap point (c .before .copy-words .ensures ∙ part-is 6 (s .words .now) (s .k))
 
 pub point-of-spec : {M : Type 1} → statement M
 point-of-spec =
     tie.close
     (tie.spec
-    Inv-loop
-    μ-loop
     mul-base
-    loop-holds
-    add-point
-    mul-point
-    shared-slice-read-point
-    mul-point-2
-    array-write-point
-    add-i
-    loop-less
-    loop-again
+    slice-aggregate-copy-words
+    add-copy-words
+    mul-copy-words
+    sub-copy-words
+    part-copy-words-start
+    part-copy-words-end
+    copy-words-requires
     returns)

@@ -1,10 +1,10 @@
--- `compare::check::row_at` is safe: the place stays below 16. Assumes nothing.
+-- `compare::banks::row_at` is safe: the place stays below 16. Assumes nothing.
 use mathlib.Core.Path.{_≡_}
 use Prim.Native.Nat.{_-_, _≤_}
 use borrow.Author.Needs.{needs}
 use lib.ListN.{length}
-use Rattle.compare.proofs.check.row_at.Statement.{statement}
-use Rattle.compare.proofs.check.row_at.Tie as tie
+use Rattle.compare.proofs.banks.row_at.Statement.{statement}
+use Rattle.compare.proofs.banks.row_at.Tie as tie
 
 abbrev Inv-loop : tie.InvT-loop
 Inv-loop line base row₀ i₀ row i = (i ≤ 16) × (length row ≡ 16)
@@ -15,17 +15,14 @@ abbrev μ-loop : tie.MeasureT-loop
 loop-holds : tie.Need-loop-holds Inv-loop μ-loop
 loop-holds c = search needs
 
-add-row : tie.Need-add-row Inv-loop μ-loop
-add-row c = search needs
+add-number-at : tie.Need-add-number-at Inv-loop μ-loop
+add-number-at c = search needs
+
+number-at-requires : tie.Need-number-at-requires Inv-loop μ-loop
+number-at-requires c κs = search needs
 
 mul-row : tie.Need-mul-row Inv-loop μ-loop
 mul-row c = search needs
-
-shared-slice-read-row : tie.Need-shared-slice-read-row Inv-loop μ-loop
-shared-slice-read-row c = search needs
-
-mul-row-2 : tie.Need-mul-row-2 Inv-loop μ-loop
-mul-row-2 c = search needs
 
 array-write-row : tie.Need-array-write-row Inv-loop μ-loop
 array-write-row c = search needs
@@ -49,10 +46,9 @@ row-at-spec =
     Inv-loop
     μ-loop
     loop-holds
-    add-row
+    add-number-at
+    number-at-requires
     mul-row
-    shared-slice-read-row
-    mul-row-2
     array-write-row
     add-i
     loop-less
