@@ -11,12 +11,13 @@ use lib.Seq.{take-at, drop-at, getD-at}
 use Rattle.simd.specs.declared.Gate.{Gate}
 use Rattle.expr.specs.declared.Token.{Token}
 use Rattle.expr.specs.declared.Token.the-variants.{Constant, Variable, Binary, Not, Neg, Bad}
-use Rattle.expr.specs.Formula.{tokenAt, tokens, orElse, leavesOne, isFormula, arity}
+use Rattle.expr.specs.Formula.{tokenAt, tokens, leavesOne, isFormula, arity}
 use Rattle.expr.specs.Tree.{Tree, written, fold}
 use Rattle.expr.specs.Tree.Tree.{constant, variable, inverted, negated, gated}
 use Rattle.expr.proofs.Tokens.{tokens-length, tokens-take}
 use Rattle.expr.proofs.Machine.{passed}
-use Rattle.expr.proofs.Trees.{whole-tree, Formed, formed, leaves-one-tree, written-pos}
+use Rattle.expr.proofs.Trees.{Formed, formed, leaves-one-tree, written-pos}
+use Rattle.expr.proofs.Formulas.{read-tree}
 use Rattle.expr_cost.specs.declared.Cost.{Cost}
 use Rattle.expr_cost.specs.declared.CostInfo.{CostInfo}
 use Rattle.expr_cost.specs.Cost.{leafInfo, infoUnary, infoGate, isNonlinear, costAlg, noCost, infoOf, costOf, Roomy}
@@ -42,8 +43,8 @@ module _ (ops operands : List ℕ) where
 
 -- ---- the cost of a tree
 pub info-tree : (t : Tree) → infoOf (written t) ≡ fold costAlg t
-unfolding infoOf orElse
-info-tree t = ap (orElse (record { cost = noCost; varies = false })) (whole-tree costAlg t)
+unfolding infoOf
+info-tree t = read-tree costAlg (record { cost = noCost; varies = false }) t
 
 record Small (c : Cost) (n : ℕ) : Type 0 where
   size : c .size ≤ 3 * n

@@ -1,12 +1,11 @@
 -- `evaluator::eval` meets its contract: each refusal is tested as the definition tests it, and what is left meets what the evaluator asks. Assumes nothing.
-use mathlib.Core.Path.{sym, ap, _∙_}
+use mathlib.Core.Path.{sym, _∙_}
 use mathlib.Core.Bool.{not, _||_}
-use Prim.Native.Nat.{ℕ}
 use borrow.Author.Needs.{needs}
 use borrow.Author.Tests.{lt-ltb, le-ltb}
 use lib.Dec.{ltb}
 use lib.ListN.{length}
-use Rattle.arith.specs.Refusal.{refuse, outcome, answer, badWidth}
+use Rattle.arith.specs.Refusal.{refuse, outcome, badWidth}
 use Rattle.arith.proofs.Refusals.{within}
 use Rattle.expr.specs.Formula.{tokens}
 use Rattle.expr.specs.Answers.{tooShort, notFormula}
@@ -73,7 +72,8 @@ returns-5 c =
     let e3 = sym (c .before .before .before .before .if3 .left) ∙ c .before .before .before .before .before .too-short .ensures in
     let e4 = sym (le-ltb (length (s .words .now)) (s .nv) (c .before .before .before .if4 .left)) in
     let e6 = sym (c .before .if5 .taken) ∙ c .before .before .is-formula .ensures in
-    ap (λ (v : ℕ). answer v) (c .eval-tokens .ensures) ∙ λ i. outcome (refuse (e1 i) 1 (refuse (e2 i) 2 (refuse (e3 i || e4 i) 4 (refuse (not (e6 i)) 6 0)))) (valueOf (s .w) (s .words .now) (tokens (s .count) (s .ops .now) (s .operands .now)))
+    let v = c .eval-tokens .ensures in
+    λ i. outcome (refuse (e1 i) 1 (refuse (e2 i) 2 (refuse (e3 i || e4 i) 4 (refuse (not (e6 i)) 6 0)))) (v i)
 
 returns-6 : tie.Need-returns-6
 returns-6 c =

@@ -5,7 +5,6 @@ use borrow.Author.Needs.{needs}
 use Rattle.arith.specs.Refusal.{refuse}
 use Rattle.expr.specs.Formula.{tokens}
 use Rattle.expr.specs.Answers.{tooShort, notFormula}
-use Rattle.expr_cost.specs.declared.Cost.{Cost}
 use Rattle.expr_cost.specs.declared.inner.SpanCost.{SpanCost}
 use Rattle.expr_cost.specs.Cost.{costOf}
 use Rattle.expr_cost.specs.Answers.{costOr}
@@ -55,9 +54,8 @@ returns-3 c =
     let e1 = sym (c .before .before .before .before .before .before .if1 .left) ∙ c .before .before .before .before .before .before .before .outside .ensures in
     let e4 = sym (c .before .before .before .before .if2 .left) ∙ c .before .before .before .before .before .too-short .ensures in
     let e6 = sym (c .before .before .if3 .taken) ∙ c .before .before .before .is-formula .ensures in
-    ap (λ (x : SpanCost). costOr 0 (x .info .cost)) (c .before .cost-before .ensures)
-    ∙ ap (λ (x : Cost). costOr 0 x) (whole-cost (s .nv) (s .count) (s .ops .now) (s .operands .now) (sym (c .before .before .before .is-formula .ensures) ∙ c .before .before .if3 .taken))
-    ∙ λ i. costOr (refuse (e1 i) 1 (refuse (e4 i) 4 (refuse (not (e6 i)) 6 0))) (costOf (tokens (s .count) (s .ops .now) (s .operands .now)))
+    let v = ap (λ (x : SpanCost). x .info .cost) (c .before .cost-before .ensures) ∙ whole-cost (s .nv) (s .count) (s .ops .now) (s .operands .now) (sym e6) in
+    λ i. costOr (refuse (e1 i) 1 (refuse (e4 i) 4 (refuse (not (e6 i)) 6 0))) (v i)
 
 returns-4 : tie.Need-returns-4
 returns-4 c =
