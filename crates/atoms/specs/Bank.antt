@@ -11,6 +11,7 @@ use Rattle.expr_cost.specs.Cost.{noCost, costOf, isBetter}
 use Rattle.probe.specs.declared.Point.{Point}
 use Rattle.probe.specs.FormulaRow.{rowOf}
 
+-- 01, From heap ..: per atom its formula, its cost and its row
 pub record Atom : Type 0 where
   pub form : List Token
   pub cost : Cost

@@ -35,7 +35,7 @@ unfoldable pub rowPart : Atom → List ℕ
 unfolding padTo
 rowPart a = padTo 16 0 (a .row)
 
--- the five arrays
+-- 01, From heap ..: the five lent arrays
 pub record Arrays : Type 0 where
   pub lengths : List ℕ
   pub ops : List ℕ
@@ -43,7 +43,7 @@ pub record Arrays : Type 0 where
   pub costs : List ℕ
   pub rows : List ℕ
 
--- the arrays that hold the bank, over what they held before
+-- 01, Places beyond the counts in a lent output stay unchanged: the arrays that hold the bank, over what they held before
 abbrev pub written : List Atom → Arrays → Arrays
 written bank old = record {
   lengths = spread 1 lengthPart bank (old .lengths);

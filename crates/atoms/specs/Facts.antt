@@ -47,7 +47,7 @@ pub record Complete (nv w : ℕ) (points : List Point) (target : List ℕ) : Typ
   pub inverted : (k : ℕ) → k < length (baseOf nv w points) → Holds (bankOf nv w points target) (rowOf w points (getD (beforeTurn nv w points k) k noAtom .form ++ (Not ∷ [])))
   pub seeded : (i : ℕ) → i < length (seedsOf target) → Holds (bankOf nv w points target) (rowOf w points (Constant (getD (seedsOf target) i 0) ∷ []))
 
--- the facts, for every count of variables that is not refused, every width, sixteen points and target
+-- ---- the facts, for every width, list of points and target; the first for every count of variables that is not refused
 abbrev pub BankIsSound : Type 0
 BankIsSound = (nv w : ℕ) (points : List Point) (target : List ℕ) → 1 ≤ nv → nv ≤ 6 → SoundBank nv w points (bankOf nv w points target)
 

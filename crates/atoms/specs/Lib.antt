@@ -1,4 +1,4 @@
--- What the contracts of this crate, and the definitions above it, cite.
+-- What the contracts of the crates above cite.
 pub mod Bank
 pub mod Stock
 pub mod Encoding

@@ -28,6 +28,7 @@ gatesOf i j = map (λ (g : Gate). Variable i ∷ (Variable j ∷ (Binary g ∷ [
 unfoldable pub differenceOf : ℕ → ℕ → List (List Token)
 differenceOf i j = elim (eqb i j) [ true ↦ [] | false ↦ (Variable i ∷ (Variable j ∷ (Neg ∷ (Binary Add ∷ [])))) ∷ [] ]
 
+-- 01, Bank: the order of `populate`, up to Neg and Not of the atoms present
 unfoldable pub stock : ℕ → ℕ → List (List Token)
 unfolding flatMap countUp constants ofVariable gatesOf differenceOf
 stock nv w =
@@ -36,11 +37,12 @@ stock nv w =
     ++ (flatMap (λ (i : ℕ). flatMap (gatesOf i) (countUp i (nv - i))) (countUp 0 nv)
     ++ flatMap (λ (i : ℕ). flatMap (differenceOf i) (countUp 0 nv)) (countUp 0 nv)))
 
+-- 01, Bank: the OR of the target row
 unfoldable pub orAll : List ℕ → ℕ
 orAll [] = 0
 orAll (x ∷ xs) = bitOr x (orAll xs)
 
--- the first n words that are not 0
+-- 01, Bank: the first n nonzero words, repeats counted
 unfoldable pub firstNonzero : ℕ → List ℕ → List ℕ
 firstNonzero zero xs = []
 firstNonzero (suc n) [] = []

@@ -1,1 +1,1 @@
-// Atoms by value: small formulas with their cost and row.
+// The bank as a list of atoms: its definition, its arrays, and the theorems on it. There is no code.

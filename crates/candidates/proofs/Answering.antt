@@ -27,7 +27,7 @@ use Rattle.candidates.specs.declared.CandidatesAnswer.the-variants.{Used
 use Rattle.candidates.specs.Candidates.{candidates, candidatesRefusal, Collected}
 use Rattle.candidates.specs.Steps.{Kept}
 
--- ---- nothing is refused
+-- ---- what is known where nothing is refused
 pub record Passed (w n : ℕ) (rows order : List ℕ) (p t : ℕ) (list : List ℕ) : Type 0 where
   pub width : w ≤ 64
   pub p-below : p < 2 ^ w
@@ -74,6 +74,7 @@ module _ {w p t : ℕ} {r : Solution} (solved : Solved w p t r) where
   pub solved-none : r ≡ Nothing → IsNone w p t
   solved-none e = subst (Solved w p t) e solved
 
+-- the class of a solution, as `collect` takes it
 abbrev pub classOf : ℕ → ℕ → ℕ → Residue
 classOf w bits first = record { w = w; bits = bits; first = first }
 

@@ -29,7 +29,7 @@ candidatesRefusal w n rows order p t list =
     (refuse (tooManyPairs n) 7
     (refuse (wrongOrder n rows order) 8 0))))
 
--- what each case of `CandidatesAnswer` says: its refusal, how many candidates there are, or none for "not used"
+-- 01, Expected forms ..: what each case of `CandidatesAnswer` says: how many candidates there are, none for "not used", or its refusal
 abbrev pub candidatesSay : CandidatesAnswer → Outcome (Option ℕ)
 candidatesSay (Used count) = answer (some count)
 candidatesSay NotUsed = answer none

@@ -3,7 +3,7 @@ pub mod inner;
 
 ghost use Rattle.candidates.specs.Candidates.{Collected};
 
-// How many candidates are listed, or "not used".
+// How many candidates are listed, or "not used"; or the refusal.
 pub enum CandidatesAnswer {
     Used(u32),
     NotUsed,

@@ -6,7 +6,7 @@ use native.Mathlib.Omega.{arith}
 use Rattle.filter.specs.Places.{Reached}
 use Rattle.filter.specs.Steps.{Ascends}
 
--- what is looked for lies between from and to
+-- the invariant: what is looked for lies between from and to
 pub record Seek (f : ℕ → ℕ) (n lo key from to : ℕ) : Type 0 where
   pub start : lo ≤ from
   pub up : from ≤ to
@@ -14,6 +14,7 @@ pub record Seek (f : ℕ → ℕ) (n lo key from to : ℕ) : Type 0 where
   pub before : (k : ℕ) → lo ≤ k → k < from → f k < key
   pub after : (k : ℕ) → to ≤ k → k < n → key ≤ f k
 
+-- before the first turn
 pub seek-start : (f : ℕ → ℕ) (n key from to : ℕ) → from ≤ to → to ≤ n → ((k : ℕ) → to ≤ k → k < n → key ≤ f k) → Seek f n from key from to
 seek-start f n key from to l h after = record {
   start = omega arith;
@@ -24,6 +25,7 @@ seek-start f n key from to l h after = record {
 }
 
 module _ (f : ℕ → ℕ) (n lo key from to mid : ℕ) (o : Ascends f n) (l : from ≤ mid) (h : mid < to) (s : Seek f n lo key from to) where
+  -- at mid f is below the key: the answer is after it
   pub seek-right : f mid < key → Seek f n lo key (mid + 1) to
   seek-right lt = record {
     start = omega (arith, s .start);
@@ -33,6 +35,7 @@ module _ (f : ℕ → ℕ) (n lo key from to mid : ℕ) (o : Ascends f n) (l : f
     after = s .after;
   }
 
+  -- at mid f is key or more: the answer is mid or before it
   pub seek-left : key ≤ f mid → Seek f n lo key from mid
   seek-left le = record {
     start = s .start;
@@ -42,6 +45,7 @@ module _ (f : ℕ → ℕ) (n lo key from to mid : ℕ) (o : Ascends f n) (l : f
     after = λ k a b. omega (arith, o .up mid k a b);
   }
 
+-- nothing is left between them
 pub seek-done : (f : ℕ → ℕ) (n lo key from to : ℕ) → to ≤ from → Seek f n lo key from to → Reached f n lo key from
 seek-done f n lo key from to d s = record {
   from = s .start;
@@ -87,7 +91,7 @@ scan-below f n lo key i a o h lt r = record {
   after = λ k l b. absurd (omega arith);
 }
 
--- f i isn't
+-- f i is key or more
 pub scan-over : (f : ℕ → ℕ) (lo key i a : ℕ) → key ≤ f i → Reached f i lo key a → Reached f (i + 1) lo key a
 scan-over f lo key i a le r = record {
   from = r .from;
@@ -96,7 +100,7 @@ scan-over f lo key i a le r = record {
   after = λ k l b. elim (decLt k i) [ yes h ↦ r .after k l h | no h ↦ let e : i ≡ k = omega arith in subst (λ (j : ℕ). key ≤ f j) e le ];
 }
 
--- the rest isn't
+-- all from i on is key or more
 pub scan-done : (f : ℕ → ℕ) (n lo key i a : ℕ) → i ≤ n → ((k : ℕ) → i ≤ k → k < n → key ≤ f k) → Reached f i lo key a → Reached f n lo key a
 scan-done f n lo key i a h rest r = record {
   from = r .from;

@@ -94,6 +94,7 @@ module _ (c : Residue) (small : Small c) where
     }
 
     module _ (a at key left : ℕ) (g : Going c n rows order a at key left) where
+      -- all keys are passed
       pub going-done : left ≤ 0 → KeySettled c n rows order a (record { at = at; key = key; left = 0 })
       going-done z =
           let w = g .sweeping in
@@ -137,6 +138,7 @@ module _ (c : Residue) (small : Small c) where
                   omega arith));
             }
 
+        -- no place is left
         pub going-end : at ≡ n → KeySettled c n rows order a (record { at = n; key = key; left = 0 })
         going-end e = record {
           sweeping = record {
@@ -150,6 +152,7 @@ module _ (c : Residue) (small : Small c) where
           stops = λ p. absurd (omega arith);
         }
 
+        -- the word there is the key
         pub going-hit : wordAt rows order at ≡ key → KeySettled c n rows order a (record { at = at; key = key; left = left })
         going-hit e = record {
           sweeping = g .sweeping;
@@ -158,7 +161,7 @@ module _ (c : Residue) (small : Small c) where
           stops = λ _. eq-eqb _ _ (ap (λ (x : ℕ). x % S) e ∙ key-class);
         }
 
-        -- one key less
+        -- the word there is beyond the key: one key less
         module _ (o : Ordered n rows order) (h : at < n) (le : key ≤ wordAt rows order at) (ne : wordAt rows order at ≡ key → ⊥) where
           further : (k : ℕ) → at ≤ k → k < n → inClass c rows (getD order k 0) ≡ true → key + S ≤ wordAt rows order k
           further k l b y =
@@ -217,7 +220,7 @@ module _ (c : Residue) (small : Small c) where
       stops = λ h. absurd (omega arith);
     }
 
-    -- which each is where the last is
+    -- which each is where the last is, since words ascend
     pub tail-below : Ordered n rows order → (a key v : ℕ) → key ≡ 2 ^ c .w → 0 < n → v ≡ wordAt rows order (n - 1) → v < key → KeysPassed c n rows order a → FirstOf (inClass c rows) n order a n
     tail-below o a key v e some last lt p =
         tail-empty a (λ k l h. let up = words-ascend n rows order o .up k (n - 1) (omega arith) (omega arith) in omega arith) p
@@ -230,7 +233,7 @@ module _ (c : Residue) (small : Small c) where
         let z = low .before k l h in
         omega arith)
 
-    -- ---- both
+    -- ---- the keys, and the tail after them
     pub settled-key : (a : ℕ) (s : Sweep) → 0 < s .left → KeySettled c n rows order a s → Settled c n rows order a s
     settled-key a s p k = record { sweeping = k .sweeping; from = k .from; skips = k .skips; stops = λ _. k .stops p }
 

@@ -33,7 +33,7 @@ pub skips-narrow : (class test : ℕ → Bool) (order : List ℕ) (a b : ℕ) �
 skips-narrow class test order a b narrow s k l h =
     is-false (test (getD order k 0)) (λ e. true-not-false (sym (narrow (getD order k 0) e) ∙ s k l h))
 
--- ---- the first place of a test
+-- ---- the first place of a test, from an earlier start
 pub first-earlier : (test : ℕ → Bool) (n : ℕ) (order : List ℕ) (a b r : ℕ) → a ≤ b → Skips test order a b → FirstOf test n order b r → FirstOf test n order a r
 first-earlier test n order a b r l s f = record {
   from = omega (arith, f .from);

@@ -21,7 +21,7 @@ pub struct Sweep {
     pub left: u64,
 }
 
-// Of so few places each word is read. No read waits for another then, as it does in a search by halves.
+// Of so few places each word is read. No read waits for another then, as it does in a binary search.
 const SCANNED: usize = 4;
 
 // A sample is taken of each so many places.
@@ -98,7 +98,7 @@ fn scan_lower(rows: &[u64], order: &[u32], n: usize, from: usize, to: usize, key
     a
 }
 
-// The same by halves, as long as there are many.
+// The same by binary search, as long as there are more than a few places.
 fn lower_between(rows: &[u64], order: &[u32], n: usize, from: usize, to: usize, key: u64) -> usize
     requires { ⌜ Ordered n (now rows) (now order) × Window n (now rows) (now order) from to key ⌝ }
     ensures { λ r. ⌜ Lower n (now (rows .entry)) (now (order .entry)) from key r ⌝ }
@@ -144,7 +144,7 @@ pub fn lower(
     lower_between(rows, order, n, from, n, key)
 }
 
-// The key 2^bits further on. No step of 2^64 is needed for it at 64 bits.
+// The key 2^bits further on, in two steps: at 64 bits 2^bits is no u64.
 fn next_key(key: u64, bits: u32) -> u64
     ensures { λ r. ⌜ r ≡ ((key + (modulus bits - 1)) % 2 ^ 64 + 1) % 2 ^ 64 ⌝ }
 {

@@ -10,9 +10,11 @@ use Rattle.arith.specs.Refusal.{badWidth}
 use Rattle.arith.proofs.Refusals.{within, passed, neither, enough}
 use Rattle.index.specs.Build.{tooShort, refusalOf}
 
+-- the last of five conditions, where those before it do not apply
 pub or-last : {a b c d : Bool} (e : Bool) → a ≡ false → b ≡ false → c ≡ false → d ≡ false → e ≡ (a || (b || (c || (d || e))))
 or-last e p q r s = rw (p, q, r, s)
 
+-- what is known where nothing is refused
 pub record Passed (w count L rows pairs pairRows order work : ℕ) : Type 0 where
   pub width : w ≤ 64
   pub few : count ≤ atomsMax

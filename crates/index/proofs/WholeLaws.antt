@@ -114,6 +114,7 @@ module _ (w count : ℕ) (rows : List ℕ) (L : ℕ) (old : Arrays) where
       summary : ℕ → Bool → Summary
       summary n b = record { pairs = n; cut = b }
 
+-- so a build that is not refused is called with what it needs
 pub fits-of : {w count L : ℕ} (rows work pairs listed order : List ℕ) → Passed w count L (length rows) (length pairs) (length listed) (length order) (length work)
     → Fits w count L rows work pairs listed order
 fits-of rows work pairs listed order p = record {

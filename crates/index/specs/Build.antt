@@ -42,7 +42,7 @@ abbrev pub indexRefusal : ℕ → ℕ → List ℕ → ℕ → Arrays → ℕ
 indexRefusal w count rows L lent = refusalOf w count L (length rows) (length (lent .pairs)) (length (lent .rows)) (length (lent .order)) (length (lent .work))
 
 -- ---- the answer
--- how many pairs are listed, and the mark
+-- 01, Index: how many pairs are listed, and the mark "cut"
 pub record Summary : Type 0 where
   pub pairs : ℕ
   pub cut : Bool
@@ -50,16 +50,16 @@ pub record Summary : Type 0 where
 abbrev pub summaryOf : Index → Summary
 summaryOf index = record { pairs = length (index .pairs); cut = index .cut }
 
--- what each case of `IndexAnswer` says
+-- 01, Expected forms ..: what each case of `IndexAnswer` says: how many pairs and the mark, or its refusal
 abbrev pub indexSays : IndexAnswer → Outcome Summary
 indexSays (Built pairs cut) = answer (record { pairs = pairs; cut = cut })
 indexSays (Refused number) = refused number
 
--- the index of the first `count` lent rows under all five gates
+-- 01, Calls over a lent bank work on its contents as they are: the index of the first `count` lent rows under all five gates
 abbrev pub lentIndex : ℕ → ℕ → List ℕ → ℕ → Index
 lentIndex w count rows L = indexOf w L allGates (rowsOf count rows)
 
--- 01, Agreed: the result and the final contents of every array. The work area's are the program's choice, unless the call is turned back
+-- 01, Agreed between us: the result and the final contents of every array. The work area's are the program's choice, unless the call is turned back
 pub record IndexBuilt (w count : ℕ) (rows : List ℕ) (L : ℕ) (old new : Arrays) (r : IndexAnswer) : Type 0 where
   pub says : indexSays r ≡ outcome (indexRefusal w count rows L old) (summaryOf (lentIndex w count rows L))
   pub pairs : new .pairs ≡ unlessRefused (indexRefusal w count rows L old) (spread 3 pairPart (lentIndex w count rows L .pairs) (old .pairs)) (old .pairs)
@@ -70,5 +70,6 @@ pub record IndexBuilt (w count : ℕ) (rows : List ℕ) (L : ℕ) (old new : Arr
       (old .order)
   pub work-kept : 0 < indexRefusal w count rows L old → new .work ≡ old .work
 
+-- the arrays by name, for the contract
 abbrev pub arraysOf : List ℕ → List ℕ → List ℕ → List ℕ → Arrays
 arraysOf pairs rows order work = record { pairs = pairs; rows = rows; order = order; work = work }

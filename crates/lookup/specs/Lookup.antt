@@ -26,11 +26,11 @@ findRefusal w count rows row =
     (refuse (reaches (2 ^ w) row) 5
     (refuse (tooManyAtoms count) 7 0)))
 
--- what `find_row` answers
+-- 01, Also added: finding a row in lent bank rows, least slot or none, where nothing is refused
 abbrev pub found : ℕ → ℕ → List ℕ → List ℕ → Outcome (Option ℕ)
 found w count rows row = outcome (findRefusal w count rows row) (leastFrom rows row 0 count)
 
--- what each case of `FoundRow` says
+-- 01, Expected forms ..: what each case of `FoundRow` says: the slot, none, or its refusal
 abbrev pub foundSays : FoundRow → Outcome (Option ℕ)
 foundSays (At slot) = answer (some (slot .0))
 foundSays Nothing = answer none
@@ -42,6 +42,6 @@ handRefusal count rows slot =
     refuse (tooFewRows count rows) 4
     (refuse (tooManyAtoms count || leb count slot) 7 0)
 
--- 01, Turned back: the row hand-back returns an empty part when turned back
+-- 01, Also added: the part of the row buffer that is one atom's row. 01, Turned back: an empty part when turned back
 abbrev pub handedBack : ℕ → List ℕ → ℕ → List ℕ
 handedBack count rows slot = unlessRefused (handRefusal count rows slot) (partAt 16 rows slot) []

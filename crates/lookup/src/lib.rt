@@ -8,6 +8,7 @@ ghost use lib.ListN.{length};
 ghost use Rattle.arith.specs.Refusal.{answer};
 ghost use Rattle.lookup.specs.Lookup.{found, foundSays, handedBack, leastFrom};
 
+// 01, Also added: the least slot, or none; or the refusal.
 pub enum FoundRow {
     At(AtomSlot),
     Nothing,
@@ -33,6 +34,7 @@ pub fn find_row(w: u32, count: usize, rows: &[u64], row: [u64; 16]) -> FoundRow
     least_slot(count, rows, row)
 }
 
+// The least slot below the count whose row is `row`.
 fn least_slot(count: usize, rows: &[u64], row: [u64; 16]) -> FoundRow
     requires { ⌜ (count ≤ 479) × (16 * count ≤ length (now rows)) ⌝ }
     ensures { λ r. ⌜ foundSays r ≡ answer (leastFrom (now (rows .entry)) row 0 count) ⌝ }

@@ -1,4 +1,4 @@
--- What the map's answers say of the rows. Assumes nothing.
+-- What the map's answers say of the rows: one that is found is held, one that is not isn't. Assumes nothing.
 use mathlib.Core.Path.{_≡_, subst}
 use mathlib.Core.Bool.{true, false}
 use mathlib.Core.List.{List}
@@ -9,7 +9,6 @@ use Rattle.pairs.specs.Index.{rowsOf, holds}
 use Rattle.pairs.proofs.IndexLaws.{in-holds, not-in-holds}
 use Rattle.pairs.proofs.RowLaws.{in-rows, not-in-rows}
 
--- what is found and what is not
 pub hit-holds : {rows row : List ℕ} {n s : ℕ} → Hit rows n row s → holds (rowsOf n rows) row ≡ true
 hit-holds {rows} {row} {n} {s} hit = in-holds (rowsOf n rows) row (subst (λ (r : List ℕ). In r (rowsOf n rows)) (hit .same) (in-rows n rows s (hit .below)))
 

@@ -7,13 +7,14 @@ use lib.ListN.{take, drop}
 use Rattle.valmap.specs.Map.{Held, Inserted}
 use Rattle.maps.specs.declared.inner.Job.{Job}
 
+-- `BANK_BITS` and `BANK_AREA` of src/inner.rt are the same numbers
 abbrev pub bankBits : ℕ
 bankBits = 10
 
 abbrev pub bankArea : ℕ
 bankArea = 1503
 
--- how many words there are for the heads of the pairs' map, where the area has 4 × (L + 479)
+-- 01, From heap ..: a lent work area of 4 × (L + 479) u32. What the bank's map and a link for each pair leave of it, for the heads of the pairs' map
 abbrev pub headRoom : ℕ → ℕ
 headRoom L = 3 * L + 413
 

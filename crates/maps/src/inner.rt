@@ -22,6 +22,7 @@ pub struct Job {
 // The bank's map: 2^10 heads, and a link for each of 479 atoms.
 const BANK_BITS: u32 = 10;
 
+// Its words: 2^10 + 479.
 const BANK_AREA: usize = 1503;
 
 // What 4 × (L + 479) words leave for the heads of the pairs' map, where L is 0.

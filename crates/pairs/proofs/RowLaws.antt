@@ -1,4 +1,4 @@
--- Laws of the first rows of a lent array. Assumes nothing.
+-- Laws of the first rows of a lent array, and of the rows of pairs in it. Assumes nothing.
 use mathlib.Core.Path.{_≡_, refl, sym, ap, ap₂, _∙_}
 use mathlib.Core.Logic.{_⊎_, inl, inr}
 use mathlib.Core.List.{List, [], _∷_, _++_, append-assoc, append-nil}
@@ -83,7 +83,7 @@ gate-long g w rows b c hb hc =
     let lc = length-part 16 rows c hc in
     length-gateRow g w (partAt 16 rows b) (partAt 16 rows c) (omega arith) ∙ lb
 
--- ---- flat again
+-- ---- the rows joined are the array's first words
 abbrev flat : List (List ℕ) → List ℕ
 flat rows = encode (λ (r : List ℕ). r) rows
 

@@ -8,5 +8,6 @@ use Rattle.pairs.specs.Index.{Pair}
 abbrev pub pairPart : Pair → List ℕ
 pairPart p = gateNumber (p .gate) ∷ (p .b ∷ (p .c ∷ []))
 
+-- 01, From heap ..: 16L u64 (rows)
 abbrev pub pairRow : Pair → List ℕ
 pairRow p = p .row

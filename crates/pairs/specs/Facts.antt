@@ -42,12 +42,15 @@ NoneLost w gates bank pairs =
     → Holds bank (gateRow g w (getD bank b []) (getD bank c [])) ⊎ Holds (rowsIn pairs) (gateRow g w (getD bank b []) (getD bank c []))
 
 -- ---- the facts, for every width, limit, list of gates and bank
+-- 01, Index: its pairs are gates of atoms' rows that the bank doesn't hold, none twice
 abbrev pub IndexIsSound : Type 0
 IndexIsSound = (w L : ℕ) (gates : List Gate) (bank : List (List ℕ)) → SoundPairs w gates bank (indexOf w L gates bank .pairs)
 
+-- 01, Index: a new row when L pairs are listed ends the build
 abbrev pub AtMostLimit : Type 0
 AtMostLimit = (w L : ℕ) (gates : List Gate) (bank : List (List ℕ)) → length (indexOf w L gates bank .pairs) ≤ L
 
+-- 01, Index: the mark is set exactly if a build ended so. Without it no row is lost
 abbrev pub UncutLosesNone : Type 0
 UncutLosesNone = (w L : ℕ) (gates : List Gate) (bank : List (List ℕ)) → indexOf w L gates bank .cut ≡ false → NoneLost w gates bank (indexOf w L gates bank .pairs)
 

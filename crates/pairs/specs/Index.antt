@@ -17,17 +17,19 @@ unfolding partAt
 rowsOf zero rows = []
 rowsOf (suc n) rows = rowsOf n rows ++ (partAt 16 rows n ∷ [])
 
--- the row is one of the rows, in all its words
+-- 01, Index: a row held: one of the rows has the same words, all of them
 unfoldable pub holds : List (List ℕ) → List ℕ → Bool
 unfolding sameRow
 holds [] row = false
 holds (x ∷ rows) row = elim (sameRow x row) [ true ↦ true | false ↦ holds rows row ]
 
+-- 01, Index: a gate, b and c
 pub record Trial : Type 0 where
   pub gate : Gate
   pub b : ℕ
   pub c : ℕ
 
+-- 01, From heap ..: gate, b, c and row of a listed pair
 pub record Pair : Type 0 where
   pub gate : Gate
   pub b : ℕ
@@ -76,9 +78,11 @@ unfoldable pub trialRow : ℕ → List (List ℕ) → Trial → List ℕ
 unfolding gateRow
 trialRow w bank t = gateRow (t .gate) w (getD bank (t .b) []) (getD bank (t .c) [])
 
+-- the pair that a trial lists where its row is new
 abbrev pub pairOf : ℕ → List (List ℕ) → Trial → Pair
 pairOf w bank t = record { gate = t .gate; b = t .b; c = t .c; row = trialRow w bank t }
 
+-- the rows that an index holds, by slot
 unfoldable pub rowsIn : List Pair → List (List ℕ)
 rowsIn pairs = map (λ (p : Pair). p .row) pairs
 

@@ -29,11 +29,13 @@ tryPair w L bank index t =
       ]
     ]
 
+-- one trial after the other
 unfoldable pub tryAll : ℕ → ℕ → List (List ℕ) → Index → List Trial → Index
 unfolding tryPair
 tryAll w L bank index [] = index
 tryAll w L bank index (t ∷ ts) = tryAll w L bank (tryPair w L bank index t) ts
 
+-- before the first trial
 abbrev pub noPairs : Index
 noPairs = record { pairs = []; cut = false }
 

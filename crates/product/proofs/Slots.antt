@@ -29,7 +29,7 @@ use Rattle.product.specs.Trying.{slotsFor}
 use Rattle.product.specs.Steps.{fitsAt, Target, Narrows}
 use Rattle.product.proofs.Trials.{fits-lane}
 
--- nothing passes
+-- where nothing passes, there is no first
 none-pass : (test : ℕ → Bool) → ((s : ℕ) → test s ≡ false) → (l : List ℕ) → firstThat test l ≡ none
 unfolding firstThat
 none-pass test h [] = refl

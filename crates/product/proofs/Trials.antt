@@ -32,7 +32,7 @@ abbrev pub lane : ℕ → List ℕ → ℕ → List ℕ → ℕ → ℕ → ℕ
 lane w xs a ys b j = (getD xs (16 * a + j) 0 * getD ys (16 * b + j) 0) % 2 ^ w
 
 module _ (w : ℕ) (target xs ys : List ℕ) (a b : ℕ) (ok : Target w target) where
-  -- a reduced target reduced
+  -- to reduce a target that no refusal turns back changes nothing
   wanted : map (λ (t : ℕ). t % 2 ^ w) target ≡ target
   wanted =
       let long = length-map target (λ (t : ℕ). t % 2 ^ w) in
@@ -59,12 +59,13 @@ module _ (w : ℕ) (target xs ys : List ℕ) (a b : ℕ) (ok : Target w target) 
       let both = both-long (gateOf Mul w) (partAt 16 xs a) (partAt 16 ys b) j (omega (arith, long)) in
       sym (row-word j h (both .0) (both .1)) ∙ ap (λ (l : List ℕ). getD l j 0) same
 
+  -- one word that differs
   pub fits-not : (j p : ℕ) → j < 16 → p ≡ (getD xs (16 * a + j) 0 * getD ys (16 * b + j) 0) % modulus w → (p ≡ getD target j 0 → ⊥) → fitsAt w target xs a ys b ≡ false
   fits-not j p h e n =
       is-false (fitsAt w target xs a ys b)
       (λ f. n (e ∙ ap (λ (m : ℕ). (getD xs (16 * a + j) 0 * getD ys (16 * b + j) 0) % m) (modulus-is w (ok .width)) ∙ fits-lane f j h))
 
-  -- one word more
+  -- the product that the program computes is the word's
   pub lane-is : (j p : ℕ) → p ≡ (getD xs (16 * a + j) 0 * getD ys (16 * b + j) 0) % modulus w → p ≡ getD target j 0 → lane w xs a ys b j ≡ getD target j 0
   lane-is j p e q = ap (λ (m : ℕ). (getD xs (16 * a + j) 0 * getD ys (16 * b + j) 0) % m) (sym (modulus-is w (ok .width))) ∙ sym e ∙ q
 

@@ -20,7 +20,7 @@ pub record Lent (w count : ℕ) (atoms : List ℕ) (n : ℕ) (listed order targe
   pub long : length target ≡ 16
   pub reduced : (j : ℕ) → j < 16 → getD target j 0 < 2 ^ w
 
--- what each case of `Found` says
+-- what each case of `Found` says. 01, Product search: two atom slots, an atom slot and a pair slot, or none
 abbrev pub foundSays : Found → Option Product
 foundSays (Atoms a b) = some (Product.ofAtoms (a .0) (b .0))
 foundSays (AtomPair a s) = some (Product.ofPair (a .0) (s .0))

@@ -18,6 +18,7 @@ use Rattle.product.specs.Trying.{Product, tryEverything}
 use Rattle.product.specs.Stages.{Lent}
 use Rattle.search.specs.Answer.{searchRefusal, product}
 
+-- where refusal 5 doesn't apply, each word is below 2^w
 not-reached : (m : ℕ) (l : List ℕ) → reaches m l ≡ false → (j : ℕ) → j < length l → getD l j 0 < m
 unfolding reaches
 not-reached m [] e j h = absurd (omega arith)

@@ -20,7 +20,7 @@ searchRefusal w count atoms n listed order target =
     (refuse (tooManyAtoms count || tooManyPairs n) 7
     (refuse (wrongOrder n listed order) 8 0))))
 
--- what each case of `ProductAnswer` says
+-- 01, Expected forms ..: what each case of `ProductAnswer` says: two atom slots, an atom slot and a pair slot, none, or its refusal
 abbrev pub productSays : ProductAnswer → Outcome (Option Product)
 productSays (Atoms a b) = answer (some (Product.ofAtoms (a .0) (b .0)))
 productSays (AtomPair a s) = answer (some (Product.ofPair (a .0) (s .0)))

@@ -7,6 +7,7 @@ use Rattle.index.specs.declared.IndexAnswer.{IndexAnswer}
 use Rattle.index.specs.Build.{Arrays, Summary, IndexBuilt, indexSays}
 use Rattle.search.specs.Demand.{OwnIndex}
 
+-- 01, Built means: count, arrays and order list are as an index build that wasn't turned back left them
 abbrev pub BuiltIsOwn : Type 0
 BuiltIsOwn =
     (w count : ℕ) (atoms : List ℕ) (L : ℕ) (old left : Arrays) (r : IndexAnswer) (said : Summary)

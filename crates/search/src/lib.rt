@@ -7,6 +7,7 @@ use simd::PairSlot;
 ghost use mathlib.Core.Path.{_≡_};
 ghost use Rattle.search.specs.Answer.{productSays, product};
 
+// 01, Product search: two atom slots, an atom slot and a pair slot, or none; or the refusal.
 pub enum ProductAnswer {
     Atoms(AtomSlot, AtomSlot),
     AtomPair(AtomSlot, PairSlot),

@@ -21,6 +21,7 @@ use Rattle.arith.proofs.Lists.{false-true}
 use Rattle.pairs.proofs.IndexLaws.{rows-snoc, try-cases}
 use Rattle.pairs.proofs.RowLaws.{rows-put}
 
+-- n pairs are listed, and the mark
 abbrev pub tallied : ℕ → Bool → Tally
 tallied n cut = record { pairs = n; cut = cut }
 
@@ -56,7 +57,7 @@ module _ (job : Job) (rows : List ℕ) (t : Trial) where
   row = trialRow (job .w) bank t
 
   module _ (work pairs pairRows : List ℕ) (n : ℕ) (ready : Ready job rows work pairs pairRows n) where
-    -- the same index
+    -- where the index stays the same, so may the arrays
     ran-same : ((ix : Index) → ix .cut ≡ false → rowsOf n pairRows ≡ rowsIn (ix .pairs) → tryPair (job .w) (job .limit) bank ix t ≡ ix)
         → Ran job rows pairs pairRows n work pairs pairRows (tallied n false) (t ∷ [])
     unfolding tryAll

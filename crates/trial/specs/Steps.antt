@@ -56,11 +56,12 @@ pub record Listable (job : Job) (n home : ℕ) (row : List ℕ) (b c : ℕ) : Ty
   pub b-below : b < job .count
   pub c-below : c < job .count
 
--- what it does
+-- what `list_pair` does
 pub record ListedPair (job : Job) (rows pairs pairRows work′ pairs′ pairRows′ : List ℕ) (n : ℕ) (g : Gate) (b c : ℕ) (row : List ℕ) : Type 0 where
   pub ready : Ready job rows work′ pairs′ pairRows′ (n + 1)
   pub pairs-are : pairs′ ≡ putPart 3 pairs n (gateNumber g ∷ (b ∷ (c ∷ [])))
   pub rows-are : pairRows′ ≡ putPart 16 pairRows n row
 
+-- a trial by its gate, b and c
 abbrev pub trial : Gate → ℕ → ℕ → Trial
 trial g b c = record { gate = g; b = b; c = c }

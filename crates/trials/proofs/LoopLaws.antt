@@ -51,7 +51,7 @@ module _ (job : Job) (rows pairs pairRows : List ℕ) (n : ℕ) where
     index = λ oldPairs oldRows ix is. subst (λ (b : Bool). Is oldPairs oldRows pairs′ pairRows′ (r .pairs) b (tryAll (job .w) (job .limit) (rowsOf (job .count) rows) ix ts)) e (ran .index oldPairs oldRows ix is);
   }
 
--- ---- a loop over trials
+-- ---- a loop over trials: it keeps the arrays' lengths, and has run the trials ts
 pub record Loop (job : Job) (rows work₀ pairs₀ pairRows₀ : List ℕ) (n : ℕ) (work pairs pairRows : List ℕ) (made : ℕ) (ts : List Trial) : Type 0 where
   pub work-long : length work ≡ length work₀
   pub pairs-long : length pairs ≡ length pairs₀
@@ -74,7 +74,7 @@ module _ {job : Job} {rows pairs₀ pairRows₀ : List ℕ} {n : ℕ} {work₁ p
       (ran-ended job rows pairs₀ pairRows₀ n work₂ pairs₂ rows₂ r (ts ++ us) more cut
       (ran-then job rows pairs₀ pairRows₀ n work₁ pairs₁ rows₁ work₂ pairs₂ rows₂ m r ts us first then))
 
--- the trials by another name
+-- the same trials, written otherwise
 pub renamed : {job : Job} {rows pairs₀ pairRows₀ : List ℕ} {n : ℕ} {work₁ pairs₁ rows₁ : List ℕ} {r : Tally} {ts us : List Trial} → ts ≡ us
     → Ran job rows pairs₀ pairRows₀ n work₁ pairs₁ rows₁ r ts → Ran job rows pairs₀ pairRows₀ n work₁ pairs₁ rows₁ r us
 renamed {job} {rows} {pairs₀} {pairRows₀} {n} {work₁} {pairs₁} {rows₁} {r} e ran = subst (Ran job rows pairs₀ pairRows₀ n work₁ pairs₁ rows₁ r) e ran

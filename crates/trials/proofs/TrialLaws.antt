@@ -59,6 +59,7 @@ pub up-all : (g : Gate) (b n c : ℕ) → c ≡ n → trialsUpTo g b (c - firstC
 unfolding trialsWith
 up-all g b n c e = ap (λ (k : ℕ). trialsUpTo g b (k - firstC g b)) e
 
+-- no gate begins beyond the last atom
 pub from-b : (g : Gate) (b n : ℕ) → b < n → firstC g b ≤ n
 unfolding firstC
 from-b And b n h = omega arith

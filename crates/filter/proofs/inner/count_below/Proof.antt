@@ -1,4 +1,4 @@
--- `filter::inner::count_below` meets its contract: binary search between `from` and `to`. Assumes nothing.
+-- `filter::inner::count_below` meets its contract: the samples before `from` are below the key, those from `to` on are not. Assumes nothing.
 use Prim.Native.Nat.{ℕ, _+_, _-_, _/_}
 use lib.ListN.{getD}
 use borrow.Author.Needs.{needs}

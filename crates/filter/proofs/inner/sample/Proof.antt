@@ -1,4 +1,4 @@
--- `filter::inner::sample` meets its contract: j samples are taken. Assumes nothing.
+-- `filter::inner::sample` meets its contract: each of the first j samples is the word at its place, a step after the one before. Assumes nothing.
 use mathlib.Core.Path.{_≡_, refl, _∙_}
 use Prim.Native.Nat.{_+_, _-_, _*_, _≤_}
 use lib.ListN.{length, length-set}

@@ -1,4 +1,4 @@
--- `product::inner::fits` meets its contract: the words passed are the target's. Assumes nothing.
+-- `product::inner::fits` meets its contract: the products of the words passed are the target's words. Assumes nothing.
 use mathlib.Core.Path.{_≡_, sym}
 use Prim.Native.Nat.{ℕ, _-_, _≤_, _<_}
 use borrow.Author.Count.{below-more}
