@@ -1,4 +1,4 @@
--- Laws of membership and of counting up. Assumes nothing.
+-- The two cases of a Bool, and laws of lists: membership, counting up, places, what passes a test. Assumes nothing.
 use mathlib.Core.Path.{_≡_, refl, sym, ap, ap₂, _∙_, subst}
 use mathlib.Core.Bool.{Bool, true, false, cond}
 use mathlib.Core.Logic.{_⊎_, inl, inr}
@@ -88,16 +88,16 @@ count-in i zero x h = absurd h
 count-in i (suc n) x (inl e) = (omega arith, omega arith)
 count-in i (suc n) x (inr h) = let p = count-in (suc i) n x h in (omega arith, omega arith)
 
--- one more, and the rest
+-- the first m, and the rest
 pub count-add : (i m n : ℕ) → countUp i (m + n) ≡ countUp i m ++ countUp (i + m) n
 unfolding countUp
-count-add i zero n = ap (λ (k : ℕ). countUp i k) (omega-zero n) ∙ ap (λ (k : ℕ). countUp k n) (zero-omega i)
+count-add i zero n = ap (λ (k : ℕ). countUp i k) (zero-left n) ∙ ap (λ (k : ℕ). countUp k n) (zero-right i)
   where
-    omega-zero : (n : ℕ) → 0 + n ≡ n
-    omega-zero n = omega arith
+    zero-left : (n : ℕ) → 0 + n ≡ n
+    zero-left n = omega arith
 
-    zero-omega : (i : ℕ) → i ≡ i + 0
-    zero-omega i = omega arith
+    zero-right : (i : ℕ) → i ≡ i + 0
+    zero-right i = omega arith
 count-add i (suc m) n =
     let e : suc m + n ≡ suc (m + n) = omega arith in
     let f : suc i + m ≡ i + suc m = omega arith in

@@ -56,6 +56,7 @@ odd-square (suc (suc (suc (suc (suc (suc zero)))))) h o = absurd (omega arith)
 odd-square (suc (suc (suc (suc (suc (suc (suc zero))))))) h o = refl
 odd-square (suc (suc (suc (suc (suc (suc (suc (suc r)))))))) h o = absurd (omega arith)
 
+-- so the iteration starts at the number itself, right in three bits
 pub odd-start : (m : ℕ) → m % 2 ≡ 1 → Cong (2 ^ 3) (m * m) 1
 odd-start m o =
     let r : m % 8 % 2 ≡ 1 = mod-mod-le m {k = 1} {n = 3} (omega arith) ∙ o in

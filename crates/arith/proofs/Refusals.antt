@@ -14,14 +14,14 @@ use Rattle.arith.proofs.Remainders.{le-or-lt}
 pub true-not-false : true ≡ false → ⊥
 true-not-false e = let z : _≡_ {A = ℕ} 0 1 = cc in omega arith
 
--- a row of refusals: the first that applies is the call's
+-- a chain of refusals: the first that applies is the call's
 pub refused-here : {b : Bool} (n rest : ℕ) → b ≡ true → refuse b n rest ≡ n
 refused-here n rest e = ap (λ (x : Bool). refuse x n rest) e
 
 pub refused-later : {b : Bool} (n : ℕ) {rest m : ℕ} → b ≡ false → rest ≡ m → refuse b n rest ≡ m
 refused-later n {rest} e f = ap (λ (x : Bool). refuse x n rest) e ∙ f
 
--- a row of conditions under one number: one of them, or those after it
+-- conditions under one number: one of them, or those after it
 pub or-here : {a : Bool} (b : Bool) → a ≡ true → (a || b) ≡ true
 or-here b e = ap (λ (x : Bool). x || b) e
 
@@ -42,7 +42,7 @@ within low high n h = go (le-or-lt low n) (le-or-lt n high)
     go (inr a) b = absurd (true-not-false (simp (lt-ltb n low a) at h))
 
 -- ---- what is known where nothing is refused
--- a test that did not refuse, and the rest of the row
+-- a test that did not refuse, and the rest of the chain
 pub passed : (b : Bool) (number rest : ℕ) → 0 < number → refuse b number rest ≡ 0 → (b ≡ false) × (rest ≡ 0)
 passed true number rest h e = absurd (omega arith)
 passed false number rest h e = (refl, e)
@@ -51,7 +51,7 @@ pub neither : (a b : Bool) → (a || b) ≡ false → (a ≡ false) × (b ≡ fa
 neither true b e = absurd (true-not-false e)
 neither false b e = (refl, e)
 
--- a length that is enough
+-- an array of n elements that is not too short for k parts of s
 pub enough : (s n k : ℕ) → 0 < s → ltb (n / s) k ≡ false → s * k ≤ n
 enough s n k h e = elim (decLt n (k * s)) [
   | yes l ↦ absurd (omega (arith, ltb-false (n / s) k e, div-lt-iff-lt-mul {k = s} {x = n} {y = k} h .1 l))

@@ -19,7 +19,7 @@ width-le w = omega arith
 pub modulus-is : (w : ℕ) → w ≤ 64 → modulus w ≡ 2 ^ w
 modulus-is w h = let e : min w 64 ≡ w = omega arith in ap (λ (k : ℕ). 2 ^ k) e
 
--- above the mask is not below 2^w
+-- a word above the mask is not below 2^w, and any other is
 pub mask-lt : (w mask x : ℕ) → w ≤ 64 → mask ≡ modulus w - 1 → mask < x → 2 ^ w ≤ x
 mask-lt w mask x h e l = let m = modulus-is w h in let p = pow-pos w in omega arith
 

@@ -3,11 +3,11 @@ use mathlib.Core.Bool.{Bool, _||_, cond}
 use Prim.Native.Nat.{ℕ}
 use lib.Dec.{ltb}
 
--- 01, Turned back: the least applicable number counts. A call's refusal is a row of these in the table's order, with 0 at its end
+-- 01, Turned back: the least applicable number counts. A call's refusal is a chain of these in the table's order, with 0 at its end
 abbrev pub refuse : Bool → ℕ → ℕ → ℕ
 refuse applies number rest = cond applies number rest
 
--- one value where something is refused, another where nothing is
+-- the answer where nothing is refused, and what a call hands back instead where something is
 abbrev pub unlessRefused : {A : Type 0} → ℕ → A → A → A
 unlessRefused number answer refused = cond (ltb 0 number) refused answer
 
@@ -16,6 +16,7 @@ pub data Outcome (A : Type 0) : Type 0 where
   refused : ℕ → Outcome A
   answer : A → Outcome A
 
+-- a call's outcome: the number where it is not 0, else the value
 abbrev pub outcome : {A : Type 0} → ℕ → A → Outcome A
 outcome number value = unlessRefused number (answer value) (refused number)
 

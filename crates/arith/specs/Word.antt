@@ -9,10 +9,10 @@ modulus w = 2 ^ min w 64
 abbrev pub notOf : ℕ → ℕ → ℕ
 notOf m v = m - 1 - v % m
 
--- 01, evaluator.rs: Neg modulo 2^w
+-- 01, evaluator.rs: Neg is taken modulo 2^w; m is 2^w
 abbrev pub negOf : ℕ → ℕ → ℕ
 negOf m v = (m - v % m) % m
 
--- 01, gate_residual: Add inverted, a - b modulo 2^w
+-- 01, cobra-simd lib.rs, `gate_residual`: Add inverts, a - b modulo 2^w; m is 2^w
 abbrev pub subOf : ℕ → ℕ → ℕ → ℕ
 subOf m a b = (a + (m - b % m)) % m

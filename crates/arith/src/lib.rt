@@ -58,7 +58,7 @@ pub fn mod_mul(a: u64, b: u64, w: u32) -> u64
     reduce(wrapping_mul(a, b), w)
 }
 
-// Each of the w bits of v turned: 2^w - 1 - v.
+// v reduced, with each of its w bits inverted: 2^w - 1 - v.
 pub fn mod_not(v: u64, w: u32) -> u64
     ensures { λ r. ⌜ r ≡ notOf (modulus w) v ⌝ }
 {
@@ -73,7 +73,7 @@ pub fn mod_neg(v: u64, w: u32) -> u64
     mod_sub(0, v, w)
 }
 
-// The number below 2^k whose product with m is 1 modulo 2^k; an even m has none, and gets 0.
+// The number below 2^k whose product with m is 1 modulo 2^k; an even m has none, unless k is 0, and gets 0.
 pub fn mod_inverse_odd(m: u64, k: u32) -> u64
     ensures { λ r. ⌜ Inverse (modulus k) m r ⌝ }
 {

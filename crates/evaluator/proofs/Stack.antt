@@ -4,7 +4,7 @@ use mathlib.Core.Logic.{_⊎_, inl, inr}
 use mathlib.Core.Bool.{true, _&&_}
 use mathlib.Core.List.{List, [], _∷_}
 use mathlib.Core.Option.{Option, some}
-use Prim.Native.Nat.{ℕ, zero, suc, _+_, _-_, _%_, _^_, _≤_, _<_}
+use Prim.Native.Nat.{ℕ, zero, suc, _+_, _%_, _^_, _≤_, _<_}
 use native.Mathlib.Numerals.{add-one}
 use native.Mathlib.Omega.{arith}
 use borrow.Author.Tests.{ltb-true}
@@ -162,9 +162,9 @@ module _ (w : ℕ) (words : List ℕ) (count : ℕ) (ops operands arr : List ℕ
     gate-low g (suc zero) r = absurd (none≢some r)
     gate-low g (suc (suc n)) r = omega arith
 
-    bad-low : only (run (valueAlg w words) (Bad ∷ drop (i + 1) ts) (stackOf arr sp)) ≡ some (valueOf w words ts) → ⊥
+    never-bad : only (run (valueAlg w words) (Bad ∷ drop (i + 1) ts) (stackOf arr sp)) ≡ some (valueOf w words ts) → ⊥
     unfolding run step only
-    bad-low r = none≢some r
+    never-bad r = none≢some r
 
     pub stage-unary : (t ≡ Not) ⊎ (t ≡ Neg) → 1 ≤ sp
     stage-unary e = unary-low t sp e rest-here
@@ -173,7 +173,7 @@ module _ (w : ℕ) (words : List ℕ) (count : ℕ) (ops operands arr : List ℕ
     stage-binary g e = gate-low g sp (ap (λ (u : Token). only (run (valueAlg w words) (u ∷ drop (i + 1) ts) (stackOf arr sp))) (sym e) ∙ rest-here)
 
     pub stage-bad : t ≡ Bad → ⊥
-    stage-bad e = bad-low (ap (λ (u : Token). only (run (valueAlg w words) (u ∷ drop (i + 1) ts) (stackOf arr sp))) (sym e) ∙ rest-here)
+    stage-bad e = never-bad (ap (λ (u : Token). only (run (valueAlg w words) (u ∷ drop (i + 1) ts) (stackOf arr sp))) (sym e) ∙ rest-here)
 
     pub stage-word : (k : ℕ) → t ≡ Variable k → k < length words
     unfolding known

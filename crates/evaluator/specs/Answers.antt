@@ -11,7 +11,7 @@ use Rattle.evaluator.specs.declared.Value.{Value}
 use Rattle.evaluator.specs.declared.Value.the-variants.{Word, Refused}
 use Rattle.evaluator.specs.Value.{valueOf}
 
--- 01, evaluator.rs, Refusals 1, 2, 4, 6. There are at least nv input words
+-- 01, evaluator.rs, Refusals 1, 2, 4, 6. The input words are lent too: fewer than nv of them are refused 4
 abbrev pub evalRefusal : ℕ → ℕ → ℕ → List ℕ → List ℕ → List ℕ → ℕ
 evalRefusal nv w count ops operands words =
     refuse (badCount nv) 1
@@ -24,7 +24,7 @@ abbrev pub evaluated : ℕ → ℕ → ℕ → List ℕ → List ℕ → List �
 evaluated nv w count ops operands words =
     outcome (evalRefusal nv w count ops operands words) (valueOf w words (tokens count ops operands))
 
--- what each case of `Value` says
+-- 01, Expected forms: what each case of `Value` says, its refusal or the value
 abbrev pub valueSays : Value → Outcome ℕ
 valueSays (Word v) = answer v
 valueSays (Refused number) = refused number

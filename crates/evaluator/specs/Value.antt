@@ -9,7 +9,7 @@ use Rattle.simd.specs.Gates.{gateOf}
 use Rattle.expr.specs.declared.Token.{Token}
 use Rattle.expr.specs.Formula.{tokens, Alg, whole, orElse, isFormula}
 
--- 01, evaluator.rs: a constant or variable is its word modulo 2^w; Not is 2^w - 1 - v; Neg and the gates as at words of w bits
+-- 01, evaluator.rs: a constant or variable is its word modulo 2^w; Not is 2^w - 1 - v; Neg, Add and Mul are taken modulo 2^w; And, Or, Xor go bit by bit
 unfoldable pub valueAlg : ℕ → List ℕ → Alg ℕ
 valueAlg w words = record {
   onConstant = λ k. k % 2 ^ w;
@@ -19,6 +19,7 @@ valueAlg w words = record {
   onGate = λ g a b. gateOf g w a b;
 }
 
+-- the value of tokens at the input words; 0 where they leave no value, which the calls refuse
 unfoldable pub valueOf : ℕ → List ℕ → List Token → ℕ
 unfolding valueAlg whole orElse
 valueOf w words ts = orElse 0 (whole (valueAlg w words) ts)

@@ -4,6 +4,7 @@ pub mod inner;
 ghost use mathlib.Core.Path.{_≡_};
 ghost use Rattle.evaluator.specs.Answers.{evaluated, valueSays};
 
+// A formula's value, or the refusal.
 pub enum Value {
     Word(u64),
     Refused(u32),

@@ -1,4 +1,4 @@
--- The stack machine: what one token does, at any algebra, and at the algebra that only counts. Assumes nothing.
+-- The stack machine: what one token does, at any algebra and at the one that only counts values; the formula test, and what passing it tells. Assumes nothing.
 use mathlib.Core.Path.{_≡_, refl, sym, ap, ap₂, _∙_}
 use mathlib.Core.Bool.{Bool, true, false, not, _&&_, and-false}
 use mathlib.Core.List.{List, [], _∷_, _++_}

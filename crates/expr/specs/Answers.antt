@@ -10,6 +10,6 @@ use Rattle.expr.specs.Formula.{tokens, isFormula}
 abbrev pub tooShort : ℕ → List ℕ → List ℕ → Bool
 tooShort count ops operands = ltb (length ops) count || ltb (length operands) count
 
--- 01, Turned back, 6
+-- 01, Turned back, 6: the first `count` tokens are no formula
 abbrev pub notFormula : ℕ → ℕ → List ℕ → List ℕ → Bool
 notFormula nv count ops operands = not (isFormula nv (tokens count ops operands))

@@ -60,13 +60,13 @@ arity Not = 1
 arity Neg = 1
 arity Bad = 0
 
--- the token at a place of the two parallel arrays; past the end of either there is none, which is `Bad` too
+-- 01, From heap ..: two parallel arrays, opcodes and operands. The token at a place; past the end of either array there is none, which is `Bad` too
 unfoldable pub tokenAt : List ℕ → List ℕ → ℕ → Token
 unfolding tokenOf
 tokenAt ops operands i =
     cond (ltb i (length ops) && ltb i (length operands)) (tokenOf (getD ops i 0) (getD operands i 0)) Bad
 
--- the first `count` tokens
+-- 01, From heap ..: the token count first. The first `count` tokens
 unfoldable pub tokens : ℕ → List ℕ → List ℕ → List Token
 unfolding tokenAt
 tokens zero ops operands = []
@@ -108,10 +108,12 @@ only (some []) = none
 only (some (a ∷ [])) = some a
 only (some (a ∷ (b ∷ st))) = none
 
+-- the value that the whole list leaves, none where it isn't exactly one
 unfoldable pub whole : {A : Type 0} → Alg A → List Token → Option A
 unfolding run only
 whole m ts = only (run m ts [])
 
+-- the value, and another where there is none
 unfoldable pub orElse : {A : Type 0} → A → Option A → A
 orElse other none = other
 orElse other (some a) = a
@@ -128,12 +130,12 @@ abbrev pub isSome : {A : Type 0} → Option A → Bool
 isSome none = false
 isSome (some a) = true
 
--- no operand is missing and exactly one value is left
+-- 01, Turned back, 6: no operand missing, exactly one value left
 unfoldable pub leavesOne : List Token → Bool
 unfolding markAlg whole
 leavesOne ts = isSome (whole markAlg ts)
 
--- 01, Turned back, 6: unknown opcode, nonzero unused operand, variable not below the count
+-- 01, Turned back, 6: no unknown opcode, no nonzero unused operand (both are `Bad`), a variable below the count
 unfoldable pub known : ℕ → Token → Bool
 known nv (Constant k) = true
 known nv (Variable i) = ltb i nv

@@ -8,6 +8,7 @@ use Rattle.expr.specs.declared.Token.{Token}
 use Rattle.expr.specs.declared.Token.the-variants.{Constant, Variable, Binary, Not, Neg}
 use Rattle.expr.specs.Formula.{Alg}
 
+-- 01, From heap ..: the `Arc<Expr>` trees that become postfix formulas
 pub data Tree : Type 0 where
   constant : ℕ → Tree
   variable : ℕ → Tree
@@ -15,7 +16,7 @@ pub data Tree : Type 0 where
   negated : Tree → Tree
   gated : Gate → Tree → Tree → Tree
 
--- operands first, from left to right
+-- 01, From heap ..: postfix. The operands first, from left to right
 unfoldable pub written : Tree → List Token
 written (constant k) = Constant k ∷ []
 written (variable i) = Variable i ∷ []

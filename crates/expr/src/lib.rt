@@ -26,6 +26,7 @@ pub fn token_at(ops: &[u8], operands: &[u64], at: usize) -> Token
     reader::next(reader::new(ops, operands, at))
 }
 
+// The token of an opcode and its operand; `Bad` where the opcode is unknown, or an operand that isn't used isn't 0.
 fn token_of(opcode: u8, operand: u64) -> Token
     ensures { λ r. ⌜ r ≡ tokenOf opcode operand ⌝ }
 {

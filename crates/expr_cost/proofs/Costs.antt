@@ -1,4 +1,4 @@
--- Laws of costs: `isBetter` is a strict order. Assumes nothing.
+-- Laws of costs: `isBetter` is a strict order, and the cost of a gate. Assumes nothing.
 use mathlib.Core.Path.{_≡_, refl, sym, ap, _∙_}
 use mathlib.Core.Logic.{_⊎_, inl, inr}
 use mathlib.Core.Bool.{Bool, true, false, cond}

@@ -15,6 +15,7 @@ costRefusal nv count ops operands =
     (refuse (tooShort count ops operands) 4
     (refuse (notFormula nv count ops operands) 6 0))
 
+-- 01, Turned back: a cost record holds only zeros when turned back, beside the number
 abbrev pub costOr : ℕ → Cost → CostAnswer
 costOr number cost = record { refusal = number; cost = unlessRefused number cost noCost }
 

@@ -45,6 +45,7 @@ infoUnary a = record { cost = underUnary (a .cost); varies = a .varies }
 abbrev pub infoGate : Gate → CostInfo → CostInfo → CostInfo
 infoGate g a b = record { cost = underGate (isNonlinear g (a .varies) (b .varies)) (a .cost) (b .cost); varies = a .varies || b .varies }
 
+-- 01, expr_cost.rs: what each token costs, over the costs of its operands
 unfoldable pub costAlg : Alg CostInfo
 unfolding isNonlinear
 costAlg = record {
@@ -59,6 +60,7 @@ costAlg = record {
 abbrev pub noCost : Cost
 noCost = record { size = 0; products = 0; depth = 0 }
 
+-- the cost of tokens, with the mark; zeros where they leave no value, which the calls refuse
 unfoldable pub infoOf : List Token → CostInfo
 unfolding costAlg whole orElse
 infoOf ts = orElse (record { cost = noCost; varies = false }) (whole costAlg ts)

@@ -10,7 +10,7 @@ use Rattle.expr.specs.Answers.{tooShort, notFormula}
 use Rattle.evaluator.specs.Value.{valueOf}
 use Rattle.probe.specs.declared.Point.{Point}
 
--- an atom's row (01's term): the formula's value at each point. Words past the variable count are ignored: `row-alike` of proofs/Alike
+-- 01's row of a formula: its value at each point. 01, Points: places past the variable count are ignored (`row-alike` of proofs/Alike)
 unfoldable pub rowOf : ℕ → List Point → List Token → List ℕ
 unfolding valueOf
 rowOf w points ts = map (λ (p : Point). valueOf w (p .words) ts) points

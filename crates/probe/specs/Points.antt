@@ -10,7 +10,7 @@ use Rattle.probe.specs.declared.Point.{Point}
 use Rattle.probe.specs.declared.Points.{Points}
 use Rattle.probe.specs.declared.DrawnPoint.{DrawnPoint}
 
--- splitmix64 as published: a state moves on by a constant, and its word is stirred twice by a shift and a product
+-- splitmix64 as published: a constant is added to the state, and the word is the new state, mixed by xors with its own shifts and by products
 unfoldable pub nextState : ℕ → ℕ
 nextState s = (s + 0x9E3779B97F4A7C15) % 2 ^ 64
 

@@ -75,7 +75,7 @@ fn refused_points(refusal: u32) -> Points
     Points { refusal, points }
 }
 
-// Point after point.
+// All sixteen, point after point.
 fn draw_points(nv: usize, w: u32) -> [Point; 16]
     requires { ⌜ (nv ≤ 6) × (w ≤ 64) ⌝ }
     ensures { λ r. ⌜ r ≡ probePoints nv w ⌝ }
@@ -93,7 +93,7 @@ fn draw_points(nv: usize, w: u32) -> [Point; 16]
     points
 }
 
-// Word after word, each reduced.
+// The words of one point, each reduced, and 0 in the places past the variable count.
 fn draw_point(nv: usize, w: u32, state: u64) -> DrawnPoint
     requires { ⌜ (nv ≤ 6) × (w ≤ 64) ⌝ }
     ensures { λ r. ⌜ DrawsPoint nv w state r ⌝ }
@@ -141,7 +141,7 @@ pub fn probe(
     }
 }
 
-// The value at one point.
+// The value of a formula at one point. It passed the test with at most six variables, and a point has six words.
 fn value_at(w: u32, p: Point, count: usize, ops: &[u8], operands: &[u64]) -> u64
     requires { ⌜ (w ≤ 64) × (isFormula 6 (tokens count (now ops) (now operands)) ≡ true) ⌝ }
     ensures { λ r. ⌜ r ≡ valueOf w (p .words) (tokens count (now (ops .entry)) (now (operands .entry))) ⌝ }
@@ -150,7 +150,7 @@ fn value_at(w: u32, p: Point, count: usize, ops: &[u8], operands: &[u64]) -> u64
     evaluator::inner::eval_tokens(w, count, ops, operands, &words)
 }
 
-// Point after point.
+// The value at each of the sixteen points.
 fn row_at_points(
     w: u32,
     points: [Point; 16],
@@ -192,7 +192,7 @@ fn mix_word(h: u64, v: u64) -> u64
     x ^ (x >> 29)
 }
 
-// The last stirring.
+// The final mixing.
 fn finish(h: u64) -> u64
     ensures { λ r. ⌜ r ≡ finished h ⌝ }
 {

@@ -9,7 +9,7 @@ use lib.ListN.{length, getD, drop, drop-of-length-le}
 use lib.Seq.{drop-cons}
 use Rattle.simd.specs.Range.{reaches}
 
--- what a list from place i on tells of the word there
+-- the test of the words from place i on, by the word there
 pub reaches-here : (m : ℕ) (l : List ℕ) (i : ℕ) → i < length l → m ≤ getD l i 0 → reaches m (drop i l) ≡ true
 unfolding reaches
 reaches-here m l i h le =

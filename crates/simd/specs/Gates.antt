@@ -53,7 +53,7 @@ residualOf Xor w target a = bitXor target a
 residualOf Add w target a = subOf (2 ^ w) target a
 residualOf Mul w target a = 0
 
--- place by place
+-- 01, cobra-simd lib.rs: rows hold 16 u64. A gate and a residual place by place
 unfoldable pub gateRow : Gate → ℕ → List ℕ → List ℕ → List ℕ
 unfolding zipWith
 gateRow g w a b = zipWith (gateOf g w) a b
@@ -90,7 +90,7 @@ residual g w target a = rowOr (gateRefusal w) (residualRow g w target a)
 abbrev pub matched : Gate → ℕ → List ℕ → List ℕ → List ℕ → Outcome Bool
 matched g w a b target = outcome (gateRefusal w) (sameRow (gateRow g w a b) target)
 
--- what each case of `Match` says: its refusal, or whether all sixteen match
+-- 01, Expected forms: what each case of `Match` says, its refusal or whether all sixteen match
 abbrev pub matchSays : Match → Outcome Bool
 matchSays Same = answer true
 matchSays Different = answer false

@@ -1,10 +1,10 @@
--- Words out of range. Assumes nothing.
+-- The test of words behind refusal 5. Assumes nothing.
 use mathlib.Core.Bool.{Bool, false, _||_}
 use mathlib.Core.List.{List, [], _∷_}
 use Prim.Native.Nat.{ℕ}
 use lib.Dec.{leb}
 
--- some word is not below m
+-- 01, Turned back, 5: a point, target or row word not below 2^w; m is 2^w
 unfoldable pub reaches : ℕ → List ℕ → Bool
 reaches m [] = false
 reaches m (x ∷ xs) = leb m x || reaches m xs

@@ -19,7 +19,7 @@ pub fn refused_row(refusal: u32) -> RowAnswer
     }
 }
 
-// The gate of a number.
+// The gate of a number; one above 4 is no gate's, and gives Mul.
 pub fn gate_at(k: u32) -> Gate
     ensures { λ r. ⌜ r ≡ gateAt k ⌝ }
 {
@@ -60,6 +60,7 @@ pub fn residual_lane(target: u64, a: u64, g: Gate, w: u32) -> u64
     }
 }
 
+// A gate in each of the sixteen places.
 pub fn gate_row(a: [u64; 16], b: [u64; 16], g: Gate, w: u32) -> [u64; 16]
     requires { ⌜ w ≤ 64 ⌝ }
     ensures { λ r. ⌜ r ≡ gateRow g w a b ⌝ }
@@ -73,6 +74,7 @@ pub fn gate_row(a: [u64; 16], b: [u64; 16], g: Gate, w: u32) -> [u64; 16]
     row
 }
 
+// A residual in each of the sixteen places.
 pub fn residual_row(target: [u64; 16], a: [u64; 16], g: Gate, w: u32) -> [u64; 16]
     requires { ⌜ w ≤ 64 ⌝ }
     ensures { λ r. ⌜ r ≡ residualRow g w target a ⌝ }
@@ -86,7 +88,7 @@ pub fn residual_row(target: [u64; 16], a: [u64; 16], g: Gate, w: u32) -> [u64; 1
     row
 }
 
-// Stops at the first place that differs.
+// Whether the gate of a and b is the target in all sixteen places. Stops at the first that differs.
 pub fn row_matches(a: [u64; 16], b: [u64; 16], target: [u64; 16], g: Gate, w: u32) -> bool
     requires { ⌜ w ≤ 64 ⌝ }
     ensures { λ r. ⌜ r ≡ sameRow (gateRow g w a b) target ⌝ }

@@ -1,4 +1,5 @@
-// Gates on rows of sixteen words, from cobra-simd lib.rs. The scalar path is the reference; a width takes the place of the mask.
+// Gates on rows of sixteen words, from cobra-simd lib.rs. The scalar path is the reference; a width takes the place of the mask. Beside them
+// the slots of bank and index, and the most of each, for all crates above.
 pub mod inner;
 
 ghost use mathlib.Core.Path.{_≡_};
@@ -17,6 +18,7 @@ pub const ATOMS_MAX: usize = 479;
 
 pub const PAIRS_MAX: usize = 262_144;
 
+// 01's gates, in the order of their numbers.
 pub enum Gate {
     And,
     Or,
@@ -31,6 +33,7 @@ pub struct RowAnswer {
     pub row: [u64; 16],
 }
 
+// Whether all sixteen places match, or the refusal.
 pub enum Match {
     Same,
     Different,

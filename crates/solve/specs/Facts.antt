@@ -18,8 +18,10 @@ pub record Solutions (w p t : ℕ) : Type 0 where
   pub only : (f : ℕ) → f < 2 ^ w → solves w p t f ≡ true → Numbered w p least f
 
 -- ---- the facts, for every width, p ≠ 0 and t
+-- 01, Candidates: p × f = t modulo 2^w. Where 2^z divides t, there are 2^z solutions
 abbrev pub SolutionsExactly : Type 0
 SolutionsExactly = (w p t : ℕ) → w ≤ 64 → 0 < p → p < 2 ^ w → t % 2 ^ zerosOf p ≡ 0 → Solutions w p t
 
+-- where it doesn't, there are none
 abbrev pub NoSolution : Type 0
 NoSolution = (w p t : ℕ) → w ≤ 64 → 0 < p → p < 2 ^ w → 0 < t % 2 ^ zerosOf p → (f : ℕ) → solves w p t f ≡ false

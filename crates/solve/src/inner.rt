@@ -6,7 +6,7 @@ ghost use Rattle.solve.specs.Solved.{Asked, Solved};
 // More trailing zeros of p than these, and there are too many solutions to look up.
 pub const ZEROS_MAX: u32 = 8;
 
-// The solutions: the words that leave `first` modulo 2^bits, or none.
+// The solutions: the words with the remainder `first` modulo 2^bits, or none.
 pub enum Solution {
     Class { bits: u32, first: u64 },
     Nothing,

@@ -1,4 +1,4 @@
--- What the walk of a chain knows. Assumes nothing.
+-- What is known on the way along a chain, from its newest slot to its oldest. Assumes nothing.
 use mathlib.Core.Path.{_≡_, sym, ap, _∙_}
 use mathlib.Core.List.{List}
 use Prim.Native.Nat.{ℕ, _+_, _≤_, _<_}
@@ -8,7 +8,7 @@ use borrow.Author.Count.{below-more}
 use Rattle.arith.specs.Parts.{partAt}
 use Rattle.valmap.specs.Map.{homeOf, Top}
 
--- at the entry cur of the row's chain: no slot from there on has the row
+-- at the entry cur of the row's chain: no slot from cur on has the row
 pub record Walk (rows row : List ℕ) (bits n cur : ℕ) : Type 0 where
   pub within : cur ≤ n
   pub home : (s : ℕ) → cur ≡ s + 1 → homeOf bits (partAt 16 rows s) ≡ homeOf bits row

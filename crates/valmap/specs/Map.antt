@@ -8,11 +8,11 @@ use Rattle.probe.specs.Fingerprint.{fingerprintOf}
 use Rattle.valmap.specs.declared.Lookup.{Lookup}
 use Rattle.valmap.specs.declared.Lookup.the-variants.{At, Free}
 
--- which of the 2^bits chains a row belongs in
+-- which of the 2^bits chains a row belongs in (docs/DECISIONS.md, B11)
 unfoldable pub homeOf : ℕ → List ℕ → ℕ
 homeOf bits row = fingerprintOf row % 2 ^ bits
 
--- entry v is that of the newest slot below n in chain h: the slot and one, or 0 where the chain has none
+-- entry v is that of the newest slot below n in chain h: the slot plus one, or 0 where the chain has none
 pub record Top (rows : List ℕ) (bits n h v : ℕ) : Type 0 where
   pub within : v ≤ n
   pub home : (s : ℕ) → v ≡ s + 1 → homeOf bits (partAt 16 rows s) ≡ h

@@ -1,5 +1,6 @@
 // What the bank and the index call. A work area has 2^bits heads, and then a link for each slot. A chain is the slots whose
-// rows have one home: its head is the newest, and each link leads to the next older one. An entry is a slot and one.
+// rows have one home, the lowest bits of their fingerprints: its head is the newest, and each link leads to the next older one. An entry
+// is a slot plus one, and 0 where the chain ends.
 use crate::Lookup;
 ghost use mathlib.Core.Path.{_≡_};
 ghost use Prim.Native.Nat.{_%_, _^_, _≤_, _<_};

@@ -1,4 +1,4 @@
--- `arith::inverse_64` meets its contract: 3, 6, 12, 24, 48 and 64 bits. Assumes nothing.
+-- `arith::inverse_64` meets its contract: m is right in 3 bits, and the five steps make it 6, 12, 24, 48 and 64. Assumes nothing.
 use native.Mathlib.Omega.{arith}
 use borrow.Author.Needs.{needs}
 use Rattle.arith.proofs.Congruence.{cong-less}

@@ -2,7 +2,6 @@
 use mathlib.Core.Path.{sym, ap, ap₂, _∙_}
 use mathlib.Core.Bool.{Bool}
 use mathlib.Core.List.{List}
-use Prim.Native.Nat.{_-_}
 use borrow.Author.Needs.{needs}
 use Rattle.arith.specs.Refusal.{refuse, badWidth}
 use Rattle.arith.proofs.Refusals.{within}

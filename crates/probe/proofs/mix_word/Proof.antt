@@ -1,6 +1,6 @@
 -- `probe::mix_word` meets its contract: a product that wraps, and a shift. Assumes nothing.
 use mathlib.Core.Path.{ap}
-use Prim.Native.Nat.{ℕ, _-_, _/_, _^_}
+use Prim.Native.Nat.{ℕ, _/_, _^_}
 use borrow.Author.Needs.{needs}
 use lib.Bits.{bitXor}
 use Rattle.probe.specs.Fingerprint.{mixWord}

@@ -1,7 +1,7 @@
 -- `probe::probe` meets its contract: the refusals are tested in the table's order. Assumes nothing.
 use mathlib.Core.Path.{refl, sym, ap, _∙_}
 use mathlib.Core.List.{List}
-use Prim.Native.Nat.{ℕ, _-_}
+use Prim.Native.Nat.{ℕ}
 use borrow.Author.Needs.{needs}
 use Rattle.arith.proofs.Refusals.{within, refused-here, refused-later}
 use Rattle.expr.specs.Formula.{tokens}

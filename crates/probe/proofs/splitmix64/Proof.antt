@@ -1,6 +1,6 @@
 -- `probe::splitmix64` meets its contract, step by step as published. Assumes nothing.
 use mathlib.Core.Path.{_≡_, ap, _∙_}
-use Prim.Native.Nat.{ℕ, _-_, _*_, _/_, _%_, _^_}
+use Prim.Native.Nat.{ℕ, _*_, _/_, _%_, _^_}
 use borrow.Author.Needs.{needs}
 use lib.Bits.{bitXor}
 use Rattle.probe.specs.Points.{nextState, wordOf}

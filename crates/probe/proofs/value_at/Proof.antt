@@ -1,6 +1,6 @@
 -- `probe::value_at` meets its contract: a point has six words, and the formula's variables are below six. Assumes nothing.
 use mathlib.Core.Path.{_≡_, ap, _∙_}
-use Prim.Native.Nat.{ℕ, _-_}
+use Prim.Native.Nat.{ℕ}
 use borrow.Author.Needs.{needs}
 use lib.ListN.{length}
 use Rattle.expr.specs.Formula.{tokens, isFormula}

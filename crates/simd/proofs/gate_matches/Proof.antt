@@ -1,7 +1,6 @@
 -- `simd::gate_matches` meets its contract: the width is tested as the definition tests it. Assumes nothing.
 use mathlib.Core.Path.{sym, ap, _∙_}
 use mathlib.Core.Bool.{Bool}
-use Prim.Native.Nat.{_-_}
 use borrow.Author.Needs.{needs}
 use Rattle.arith.specs.Refusal.{refuse, outcome}
 use Rattle.arith.proofs.Refusals.{within}

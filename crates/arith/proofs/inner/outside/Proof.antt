@@ -1,4 +1,4 @@
--- `arith::inner::outside` meets its contract. Assumes nothing.
+-- `arith::inner::outside` meets its contract: its two comparisons are the definition's. Assumes nothing.
 use borrow.Author.Tests.{lt-ltb, le-ltb}
 use Rattle.arith.proofs.inner.outside.Statement.{statement}
 use Rattle.arith.proofs.inner.outside.Tie as tie

@@ -1,4 +1,4 @@
--- `expr::inner::too_short` meets its contract. Assumes nothing.
+-- `expr::inner::too_short` meets its contract: its two comparisons are the definition's. Assumes nothing.
 use borrow.Author.Tests.{lt-ltb, le-ltb}
 use Rattle.expr.proofs.inner.too_short.Statement.{statement}
 use Rattle.expr.proofs.inner.too_short.Tie as tie

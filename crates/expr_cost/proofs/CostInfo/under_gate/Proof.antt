@@ -1,4 +1,4 @@
--- `expr_cost::CostInfo::under_gate` meets its contract. Assumes nothing.
+-- `expr_cost::CostInfo::under_gate` meets its contract: the cost is that of the operands under the gate, and a variable stands in either operand. Assumes nothing.
 use mathlib.Core.Path.{ap, ap₂, _∙_}
 use mathlib.Core.Bool.{Bool}
 use Rattle.expr_cost.specs.declared.Cost.{Cost}

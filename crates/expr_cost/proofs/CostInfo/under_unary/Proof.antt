@@ -1,4 +1,4 @@
--- `expr_cost::CostInfo::under_unary` meets its contract. Assumes nothing.
+-- `expr_cost::CostInfo::under_unary` meets its contract: the cost is that of the operand under the token, and the mark is the operand's. Assumes nothing.
 use mathlib.Core.Path.{ap}
 use Rattle.expr_cost.specs.declared.Cost.{Cost}
 use Rattle.expr_cost.specs.declared.CostInfo.{CostInfo}

@@ -1,6 +1,6 @@
 -- `expr_cost::inner::cost_before` and `expr_cost::inner::cost_under` meet their contracts: a formula that ends before a place is a tree written out, its
--- operands are such formulas, and the token count falls. `cost_before` calls `cost_under` for the same formula, so its measure lies between:
--- twice the token count for `cost_under`, one more for `cost_before`. Assumes nothing.
+-- operands are such formulas, and the token count falls. `cost_before` calls `cost_under` for the same formula: the measure is twice the
+-- token count for `cost_under`, and one more for `cost_before`. Assumes nothing.
 use mathlib.Core.Path.{_≡_, refl, sym, ap, ap₂, _∙_, subst}
 use mathlib.Core.List.{List, [], _∷_}
 use mathlib.Core.Logic.{inl, inr}

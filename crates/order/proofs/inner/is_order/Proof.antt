@@ -17,7 +17,7 @@ Inv-loop rows n order word₀ least₀ i₀ word least i = (i ≤ n) × Passed r
 abbrev μ-loop : tie.MeasureT-loop
 μ-loop rows n order word₀ least₀ i₀ word least i = n - i
 
--- what a failing entry says, seen from the body of the loop
+-- the lent order list and the rows, seen from the body of the loop
 abbrev L : tie.In-loop Inv-loop μ-loop → List ℕ
 L c = c .before .before .args .order .now
 

@@ -1,6 +1,6 @@
 -- `simd::inner::gate_apply_lane` meets its contract, gate by gate. Assumes nothing.
 use mathlib.Core.Path.{sym, ap, _∙_}
-use Prim.Native.Nat.{ℕ, _+_, _-_, _*_, _%_}
+use Prim.Native.Nat.{ℕ, _+_, _*_, _%_}
 use borrow.Author.Needs.{needs}
 use Rattle.arith.proofs.Remainders.{modulus-is}
 use Rattle.simd.specs.Gates.{gateOf}

@@ -1,6 +1,6 @@
 -- `simd::inner::residual_lane` meets its contract, gate by gate. Assumes nothing.
 use mathlib.Core.Path.{sym, ap, _∙_}
-use Prim.Native.Nat.{ℕ, _-_}
+use Prim.Native.Nat.{ℕ}
 use borrow.Author.Needs.{needs}
 use Rattle.arith.specs.Word.{subOf}
 use Rattle.arith.proofs.Remainders.{modulus-is}

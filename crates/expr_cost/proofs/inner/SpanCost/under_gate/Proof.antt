@@ -1,4 +1,4 @@
--- `expr_cost::inner::SpanCost::under_gate` meets its contract. Assumes nothing.
+-- `expr_cost::inner::SpanCost::under_gate` meets its contract: the cost is that of `CostInfo`, and the formula begins where its left operand does. Assumes nothing.
 use mathlib.Core.Path.{ap}
 use Rattle.expr_cost.specs.declared.CostInfo.{CostInfo}
 use Rattle.expr_cost.specs.declared.inner.SpanCost.{SpanCost}
