@@ -1,4 +1,4 @@
-// What the crates above call. The bank's count n is how many atoms it has.
+// What the crates above call with arrays that hold a bank of n atoms, and a work area that holds the map of its rows.
 use crate::MAP_BITS;
 use entry::Entry;
 use simd::AtomSlot;
