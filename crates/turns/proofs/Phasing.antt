@@ -1,4 +1,4 @@
--- Laws of phases of a build, one after the other, over the arrays' contents. Assumes nothing.
+-- Laws of two phases of a build, one after the other: what the second leaves over the first's arrays it leaves over the arrays before both. Assumes nothing.
 use mathlib.Core.Path.{_≡_, sym, ap, _∙_}
 use mathlib.Core.List.{List, _++_}
 use Prim.Native.Nat.{ℕ, _+_, _-_, _*_, _≤_}
