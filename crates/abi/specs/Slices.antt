@@ -9,7 +9,7 @@ use Rattle.arith.specs.Parts.{partAt}
 use Rattle.probe.specs.declared.Point.{Point}
 
 -- ---- rows that come as slices
--- 01, From heap ..: a row is sixteen words. The first sixteen of a slice count
+-- 01, cobra-simd lib.rs: rows hold 16 u64. The first sixteen of a slice count
 abbrev pub rowIn : List ℕ → List ℕ
 rowIn words = partAt 16 words 0
 

@@ -10,7 +10,7 @@ use Rattle.entry.specs.declared.Seeds.{Seeds}
 abbrev pub seeded : Seeds → List ℕ
 seeded s = take (s .count) (s .words)
 
--- 01, Bank: the OR of the target row, then its first seven nonzero words
+-- 01, Bank: seeds: the OR of the target row, then its first seven nonzero words, repeats counted
 pub record AreSeeds (target : List ℕ) (r : Seeds) : Type 0 where
   pub few : r .count ≤ 8
   pub are : seeded r ≡ seedsOf target

@@ -25,7 +25,7 @@ ghost use Rattle.entry.specs.Seeding.{WithSeed, AreSeeds};
 
 // ---- atoms
 
-// A formula of one token.
+// An atom whose formula is one token.
 fn leaf(opcode: u8, operand: u64, row: [u64; 16]) -> Entry
     ensures { λ r. ⌜ r ≡ leafOf opcode operand row ⌝ }
 {

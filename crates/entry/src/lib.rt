@@ -26,7 +26,7 @@ pub struct Entry {
     pub row: [u64; 16],
 }
 
-// The two tokens that a turn puts after an atom's formula.
+// The two tokens of one operand.
 pub enum Unary {
     Neg,
     Not,

@@ -23,7 +23,7 @@ const VALUE_MAX: u64 = 18446744073709551615;
 const VALUE_TENTH: u64 = 1844674407370955161;
 
 // Where a reading stands: the numbers read so far, of which the first are kept; whether it is within a number, and that number's value so far;
-// whether the text is spoilt. Its fields are private: every state comes from `begin` and `feed`, so it has read some text.
+// whether the text is spoilt: refusal 9 lets no text through that begins so. Its fields are private: every state comes from `begin` and `feed`, so it has read some text.
 pub struct Parse {
     numbers: [u64; 115],
     count: u64,

@@ -147,7 +147,7 @@ module _ (w turned : ℕ) (seeds : Seeds) (old a : Arrays) (work : List ℕ) (n 
         (s .bank points (turnedOf nv w points) long (h .bank));
   }
 
--- ---- the phases in a row
+-- ---- the phases one after the other
 -- the bank over what the arrays held before the stock
 pub build-on : (nv w : ℕ) (points : List Point) (target : List ℕ) (a₀ a₁ a₂ a₃ : Arrays) (work₁ work₂ work₃ : List ℕ) (base turned r : ℕ)
     → Phase a₀ a₁ work₁ base (baseOf nv w points) → Phase a₁ a₂ work₂ turned (turnedOf nv w points) → Phase a₂ a₃ work₃ r (bankOf nv w points target)

@@ -1,4 +1,4 @@
-// The stock, the seeds, and the three phases in a row, over arrays that have been tested.
+// The stock, the seeds, and the three phases one after the other, over arrays that have been tested.
 use probe::Point;
 ghost use Rattle.atoms.specs.Stock.{bankOf};
 ghost use Rattle.atoms.specs.Facts.{baseOf};

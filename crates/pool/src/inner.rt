@@ -1,4 +1,4 @@
-// What the crates above call with arrays that hold a bank of n atoms, and a work area that holds the map of its rows.
+// What the crates above call with arrays long enough for 479 atoms, and a work area that holds the map of the first n rows; n is how many atoms the bank has.
 use crate::MAP_BITS;
 use entry::Entry;
 use simd::AtomSlot;
