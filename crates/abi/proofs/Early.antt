@@ -1,4 +1,4 @@
--- A number found before the call, and none. Assumes nothing.
+-- Laws of an export that tests before it calls: what it replies where a refusal was found and where none was, and what the tests that found none tell of the slices. Assumes nothing.
 use mathlib.Core.Path.{_≡_, sym, ap, _∙_}
 use mathlib.Core.Bool.{Bool, true, false, _||_}
 use mathlib.Core.List.{List}
@@ -15,11 +15,11 @@ use Rattle.simd.specs.Gates.{applied, residual}
 use Rattle.abi.specs.Slices.{shortRow, rowRefusal, shortPoints, pointsRefusal, pointsRowRefusal, twoShort, threeShort, gateRefusal}
 use Rattle.abi.specs.Reply.{orElse, rowReply, refusedRow, rowOrElse, gateCall}
 
--- a number was found: the code of the answer is that of the number
+-- a refusal was found: the reply is that of the refusal
 pub told-early : {A B : Type 0} (code : Outcome A → B) (number : ℕ) (call : Outcome A) (found : ℕ) → found ≡ number → 0 < found → code (refused found) ≡ code (orElse number call)
 told-early code number call found e h = ap (λ (n : ℕ). code (refused n)) e ∙ ap code (sym (unless-refused number call (refused number) (omega arith)))
 
--- none was found: it is that of the call's answer
+-- none was found: it is that of what the call said
 pub told-call : {A B : Type 0} (code : Outcome A → B) (number : ℕ) (call said : Outcome A) (found : ℕ) → found ≡ number → found ≡ 0 → said ≡ call → code said ≡ code (orElse number call)
 told-call code number call said found e z s = ap code s ∙ ap code (sym (unless-not number call (refused number) (sym e ∙ z)))
 
@@ -41,6 +41,7 @@ both-long nv w points row e =
     (ltb-false (length points) 96 (g .0), ltb-false (length row) 16 (g .1))
 
 -- ---- rows
+-- the same two where the reply is a row
 pub row-early : (number : ℕ) (call : RowAnswer) (found : ℕ) → found ≡ number → 0 < found → refusedRow found ≡ rowOrElse number call
 row-early number call found e h = ap refusedRow e ∙ sym (unless-refused number (rowReply call) (refusedRow number) (omega arith))
 
@@ -48,9 +49,11 @@ pub row-call : (number : ℕ) (call said : RowAnswer) (found : ℕ) → found �
 row-call number call said found e z s = ap rowReply s ∙ sym (unless-not number (rowReply call) (refusedRow number) (sym e ∙ z))
 
 -- ---- gates by their numbers
+-- the refusal found with the test of the rows' lengths that the code made
 pub gate-numbered : (w : ℕ) (short s : Bool) (g found : ℕ) → found ≡ gateRefusal w short g → short ≡ s → found ≡ gateRefusal w s g
 gate-numbered w short s g found e f = e ∙ ap (λ (b : Bool). gateRefusal w b g) f
 
+-- rows that were not refused: none is short, of two or of three
 pub gate-long : (w : ℕ) (short : Bool) (g : ℕ) → gateRefusal w short g ≡ 0 → short ≡ false
 gate-long w short g e =
     let rest = refuse (ltb 4 g) 6 0 in

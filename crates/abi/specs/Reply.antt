@@ -1,4 +1,4 @@
--- The answers of the calls by numbers, for callers from outside. Assumes nothing.
+-- The answers of the calls as structs of numbers, for callers through the C interface. Assumes nothing.
 use mathlib.Core.Bool.{Bool, true, false, cond}
 use mathlib.Core.List.{List, map}
 use mathlib.Core.Option.{Option, none, some}
@@ -32,7 +32,7 @@ abbrev pub orElse : {A : Type 0} → ℕ → Outcome A → Outcome A
 orElse number call = unlessRefused number call (refused number)
 
 -- ---- answers by numbers
--- 01, Turned back: beside a number of the table there is nothing else
+-- 01, Turned back: only zeros beside a number of the table
 abbrev pub refusedReply : ℕ → Reply
 refusedReply number = record { refusal = number; kind = 0; a = 0; b = 0 }
 
@@ -58,28 +58,29 @@ abbrev pub markOf : Bool → ℕ
 markOf true = 1
 markOf false = 0
 
--- 01, From heap ..: how many pairs are listed, and the mark "cut"
+-- 01, Index: how many pairs are listed, and the mark "cut"
 abbrev pub indexReply : Outcome Summary → Reply
 indexReply (refused number) = refusedReply number
 indexReply (answer s) = reply 0 (s .pairs) (markOf (s .cut))
 
--- a number: how many atoms there are; 01, Turned back, handing back a row: the place of its first word
+-- a number: 01, Bank: how many atoms there are; 01, Also added: where the part of the row buffer begins that is handed back
 abbrev pub numberReply : Outcome ℕ → Reply
 numberReply (refused number) = refusedReply number
 numberReply (answer n) = reply 0 n 0
 
--- 01, cobra-simd lib.rs, `gate_matches`
+-- 01, cobra-simd lib.rs: `gate_matches` compares all sixteen
 abbrev pub matchReply : Outcome Bool → Reply
 matchReply (refused number) = refusedReply number
 matchReply (answer true) = reply 1 0 0
 matchReply (answer false) = reply 0 0 0
 
 -- ---- words, costs, rows and points
--- 01, Turned back: beside a number of the table there are only zeros
+-- 01, Turned back: only zeros beside a number of the table
 abbrev pub wordReply : Outcome ℕ → WordReply
 wordReply (refused number) = record { refusal = number; word = 0 }
 wordReply (answer word) = record { refusal = 0; word = word }
 
+-- a cost beside its refusal, field by field
 abbrev pub costReply : CostAnswer → CostReply
 costReply x = record { refusal = x .refusal; size = x .cost .size; products = x .cost .products; depth = x .cost .depth }
 
@@ -87,9 +88,11 @@ costReply x = record { refusal = x .refusal; size = x .cost .size; products = x 
 abbrev pub costFrom : ℕ → ℕ → ℕ → Cost
 costFrom size products depth = record { size = size; products = products; depth = depth }
 
+-- a state of splitmix64 and its word
 abbrev pub drawReply : Draw → DrawReply
 drawReply x = record { state = x .state; word = x .word }
 
+-- a row beside its refusal, and the row of a refusal
 abbrev pub rowReply : RowAnswer → RowReply
 rowReply x = record { refusal = x .refusal; row = x .row }
 
@@ -100,6 +103,7 @@ refusedRow number = record { refusal = number; row = replicate 16 0 }
 abbrev pub rowOrElse : ℕ → RowAnswer → RowReply
 rowOrElse number call = unlessRefused number (rowReply call) (refusedRow number)
 
+-- the sixteen points beside their refusal, word by word
 abbrev pub pointWords : Point → PointWords
 pointWords p = record { words = p .words }
 
@@ -118,7 +122,7 @@ tokenParts opcode operand = record { opcode = opcode; operand = operand }
 abbrev pub tokenReply : Token → TokenReply
 tokenReply t = tokenParts (opcodeOf t) (operandOf t)
 
--- how long the text is that a call wrote
+-- how long the text is that a call wrote, and the reply of a refusal
 abbrev pub textReply : ℕ → TextReply
 textReply length = record { refusal = 0; length = length }
 

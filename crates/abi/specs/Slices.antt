@@ -1,4 +1,4 @@
--- Rows, points and gates as callers from outside give them, and what is refused before a call. Assumes nothing.
+-- Rows, points and gates as callers through the C interface give them, and what is refused before a call. Assumes nothing.
 use mathlib.Core.Bool.{Bool, _||_}
 use mathlib.Core.List.{List, [], _∷_}
 use Prim.Native.Nat.{ℕ, zero, suc, _+_}
@@ -9,7 +9,7 @@ use Rattle.arith.specs.Parts.{partAt}
 use Rattle.probe.specs.declared.Point.{Point}
 
 -- ---- rows that come as slices
--- 01, From heap ..: a row is sixteen words. The first sixteen of a slice count
+-- 01, cobra-simd lib.rs: rows hold 16 u64. The first sixteen of a slice count
 abbrev pub rowIn : List ℕ → List ℕ
 rowIn words = partAt 16 words 0
 
@@ -36,6 +36,7 @@ pointsFrom words k (suc n) = pointIn words k ∷ pointsFrom words (k + 1) n
 abbrev pub pointsIn : List ℕ → List Point
 pointsIn words = pointsFrom words 0 16
 
+-- 01, Turned back, 4: a lent array shorter than stated
 abbrev pub shortPoints : List ℕ → Bool
 shortPoints words = ltb (length words) 96
 
@@ -48,7 +49,7 @@ abbrev pub pointsRowRefusal : ℕ → ℕ → List ℕ → List ℕ → ℕ
 pointsRowRefusal nv w points row = refuse (badCount nv) 1 (refuse (badWidth w) 2 (refuse (shortPoints points || shortRow row) 4 0))
 
 -- ---- gates by their numbers
--- two rows as slices, and three
+-- 01, Turned back, 4: of two rows as slices, and of three
 abbrev pub twoShort : List ℕ → List ℕ → Bool
 twoShort a b = shortRow a || shortRow b
 

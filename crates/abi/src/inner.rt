@@ -1,3 +1,3 @@
-// What the exported functions are made of.
+// What the exported functions of simjaldek are made of.
 pub mod replies;
 pub mod slices;

@@ -21,21 +21,21 @@ use Rattle.bank.specs.Build.{sizesOf, tooSmall, pointsReach, bankRefusal
 use Rattle.turns.specs.Phases.{Asked, Phase, Fits}
 
 -- ---- where nothing is refused
--- neither this condition nor one after it
+-- a condition that does not apply, and the refusals after it come to 0
 record Passed (applies : Bool) (rest : ℕ) : Type 0 where
   here : applies ≡ false
   later : rest ≡ 0
 
--- a row of refusals that comes to 0
+-- refusals in the table's order that come to 0
 passed : (applies : Bool) (number rest : ℕ) → 0 < number → refuse applies number rest ≡ 0 → Passed applies rest
 passed true number rest h e = absurd (omega arith)
 passed false number rest h e = record { here = refl; later = e }
 
+-- two conditions neither of which holds
 record Neither (a b : Bool) : Type 0 where
   first : a ≡ false
   second : b ≡ false
 
--- a row of conditions none of which holds
 neither : (a b : Bool) → (a || b) ≡ false → Neither a b
 neither true b e = absurd (true-not-false e)
 neither false b e = record { first = refl; second = e }
@@ -49,6 +49,7 @@ long-enough n need e = go (le-or-lt need n)
     go (inr h) = absurd (true-not-false (sym (lt-ltb n need h) ∙ e))
 
 module _ (nv w : ℕ) (points : List Point) (target : List ℕ) (a : Arrays) (work : List ℕ) (e : bankRefusal nv w points target (sizesOf a work) ≡ 0) where
+  -- the first two conditions
   count-passed : Passed (badCount nv) (refuse (badWidth w) 2 (refuse (tooSmall (sizesOf a work)) 4 (refuse (pointsReach (2 ^ w) nv points || reaches (2 ^ w) target) 5 0)))
   count-passed = passed (badCount nv) 1 _ (omega arith) e
 

@@ -1,4 +1,4 @@
--- Laws of the test whether a word of a point reaches 2 ^ w: one point more. Assumes nothing.
+-- Laws of the test whether a word of some point reaches 2 ^ w, point after point. Assumes nothing.
 use mathlib.Core.Path.{_≡_, sym, ap, _∙_}
 use mathlib.Core.Bool.{Bool, true, false, _||_}
 use mathlib.Core.List.{List}
@@ -10,7 +10,7 @@ use Rattle.probe.specs.declared.Point.{Point}
 use Rattle.simd.specs.Range.{reaches}
 use Rattle.bank.specs.Build.{pointsReach}
 
--- what the points from place k on tell of the point there
+-- what the point at place k tells of those from there on: one of its words reaches, or it depends on the later points
 module _ (m nv : ℕ) (points : List Point) (k : ℕ) (d : Point) (h : k < length points) where
   pub points-here : reaches m (take nv (getD points k d .words)) ≡ true → pointsReach m nv (drop k points) ≡ true
   unfolding pointsReach
@@ -23,6 +23,7 @@ module _ (m nv : ℕ) (points : List Point) (k : ℕ) (d : Point) (h : k < lengt
       ∙ ap (λ (b : Bool). b || pointsReach m nv (drop (suc k) points)) e
       ∙ ap (λ (n : ℕ). pointsReach m nv (drop n points)) (sym (add-one k))
 
+-- past the last point there is none
 pub points-none : (m nv : ℕ) (points : List Point) (k : ℕ) → length points ≤ k → pointsReach m nv (drop k points) ≡ false
 unfolding pointsReach
 points-none m nv points k h = ap (pointsReach m nv) (drop-of-length-le points h)

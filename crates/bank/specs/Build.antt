@@ -36,13 +36,13 @@ tooSmall s =
     || (ltb (s .rows) (16 * atomsMax)
     || ltb (s .work) (4 * atomsMax)))))
 
--- some point has a word not below m among its first nv
+-- 01, Turned back, 5: a point word not below 2^w, here m; 01, Points: places past the variable count nv are ignored
 unfoldable pub pointsReach : ℕ → ℕ → List Point → Bool
 unfolding reaches
 pointsReach m nv [] = false
 pointsReach m nv (p ∷ points) = reaches m (take nv (p .words)) || pointsReach m nv points
 
--- 01, Turned back: building a bank 1, 2, 4, 5
+-- 01, Turned back: building a bank 1, 2, 4, 5, the least applicable number first
 abbrev pub bankRefusal : ℕ → ℕ → List Point → List ℕ → Sizes → ℕ
 bankRefusal nv w points target sizes =
     refuse (badCount nv) 1
@@ -50,7 +50,7 @@ bankRefusal nv w points target sizes =
     (refuse (tooSmall sizes) 4
     (refuse (pointsReach (2 ^ w) nv points || reaches (2 ^ w) target) 5 0)))
 
--- what each case of `BankAnswer` says: its refusal, or how many atoms there are
+-- 01, Expected forms: what each case of `BankAnswer` says: its refusal, or how many atoms there are
 abbrev pub bankSays : BankAnswer → Outcome ℕ
 bankSays (Built count) = answer count
 bankSays (Refused number) = refused number

@@ -50,6 +50,7 @@ fn point_reaches(p: Point, nv: usize, w: u32) -> bool
     false
 }
 
+// The same of all sixteen points.
 fn points_reach(points: [Point; 16], nv: usize, w: u32) -> bool
     requires { ⌜ (nv ≤ 6) × (w ≤ 64) ⌝ }
     ensures { λ r. ⌜ r ≡ pointsReach (2 ^ w) nv points ⌝ }

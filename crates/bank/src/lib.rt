@@ -15,6 +15,7 @@ pub struct Sizes {
     pub work: usize,
 }
 
+// How many atoms there are, or a number of 01's table.
 pub enum BankAnswer {
     Built(u32),
     Refused(u32),

@@ -2,7 +2,7 @@
 use mathlib.Core.Path.{_≡_, refl, sym, ap, _∙_, subst}
 use mathlib.Core.Bool.{Bool, true}
 use mathlib.Core.List.{List, [], _∷_, _++_, map, append-assoc}
-use Prim.Native.Nat.{ℕ, _+_, _-_, _%_, _^_, _≤_, _<_}
+use Prim.Native.Nat.{ℕ, _+_, _%_, _^_, _≤_, _<_}
 use native.Mathlib.Omega.{arith}
 use lib.ListN.{length, getD, replicate, length-map}
 use Rattle.arith.specs.Word.{modulus, notOf, negOf}
@@ -31,7 +31,7 @@ use Rattle.entry.specs.declared.Unary.the-variants as U
 use Rattle.entry.specs.declared.Entry as Declared
 use Rattle.entry.specs.Entry.{entryOf, textOf, leafOf, unaryToken, unaryOf, unaryRow, IsConstant, Longer, Joined, GateText, Extends, UnderUnary, Joins, UnderGate}
 
--- ---- an atom's parts
+-- ---- text, cost and row of an atom
 module _ (w : ℕ) (points : List Point) (ts : List Token) where
   -- an atom by value is its formula's if its three parts are
   pub entry-is : (r : Declared.Entry) → r .text ≡ textOf ts → r .cost ≡ costOf ts → r .row ≡ rowOf w points ts → r ≡ entryOf (atomOf w points ts)
@@ -94,7 +94,7 @@ unary-row-is u w row out k e h filled =
     filled-all (λ (j : ℕ). unaryOf u w (getD row j 0)) out (map (unaryOf u w) row) k
     (e ∙ sym (length-map row (unaryOf u w))) h filled (λ j lt. getD-map (unaryOf u w) row j 0 0 (omega (arith, length-map row (unaryOf u w))))
 
--- what the two calls of arith give at a width that is not refused
+-- what `mod_neg` and `mod_not` of arith give where the width is at most 64
 pub neg-lane : (u : Unary) (w v r : ℕ) → w ≤ 64 → u ≡ U.Neg → r ≡ negOf (modulus w) v → r ≡ unaryOf u w v
 unfolding unaryOf
 neg-lane u w v r h e q = q ∙ ap (λ (m : ℕ). negOf m v) (modulus-is w h) ∙ ap (λ (z : Unary). unaryOf z w v) (sym e)
@@ -155,7 +155,7 @@ under-gate-is w g x y a b r text cost row = record {
       (row ∙ (λ i. gateRow g w (entry-row w points ts ea i) (entry-row w points us eb i)) ∙ sym (row-gate w nv ts f us k g points));
 }
 
--- ---- what the makers ask for holds of every small formula's atom
+-- ---- what `under_unary` and `under_gate` ask for holds of the atom of every formula that is short enough
 module _ (w nv : ℕ) (points : List Point) (fits : w ≤ 64) where
   entry-len : (ts : List Token) {e : Declared.Entry} → e ≡ entryOf (atomOf w points ts) → e .text .len ≡ length ts
   entry-len ts h = ap (λ (x : Formula). x .len) (entry-text w points ts h)

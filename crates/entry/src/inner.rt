@@ -25,7 +25,7 @@ ghost use Rattle.entry.specs.Seeding.{WithSeed, AreSeeds};
 
 // ---- atoms
 
-// A formula of one token.
+// An atom whose formula is one token.
 fn leaf(opcode: u8, operand: u64, row: [u64; 16]) -> Entry
     ensures { λ r. ⌜ r ≡ leafOf opcode operand row ⌝ }
 {
@@ -42,6 +42,7 @@ fn leaf(opcode: u8, operand: u64, row: [u64; 16]) -> Entry
     Entry { text, cost, row }
 }
 
+// The atom of a constant: its row needs no points.
 pub fn constant(w: u32, v: u64) -> Entry
     requires { ⌜ w ≤ 64 ⌝ }
     ensures { λ r. ⌜ IsConstant w v r ⌝ }
@@ -65,6 +66,7 @@ fn variable_row(w: u32, points: [Point; 16], i: usize) -> [u64; 16]
     row
 }
 
+// The atom of variable i.
 pub fn variable(w: u32, points: [Point; 16], i: u32) -> Entry
     requires { ⌜ (w ≤ 64) × (i < 6) ⌝ }
     ensures { λ r. ⌜ r ≡ entryOf (atomOf w points (Variable i ∷ [])) ⌝ }
@@ -254,7 +256,7 @@ pub fn seeds_of(target: [u64; 16]) -> Seeds
     s
 }
 
-// From the last word to the first.
+// From the last word to the first, as `orAll` joins them.
 fn or_all(target: [u64; 16]) -> u64
     ensures { λ r. ⌜ r ≡ orAll target ⌝ }
 {

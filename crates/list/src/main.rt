@@ -52,6 +52,7 @@ fn write_text(text: &[u8], n: usize) {
     }
 }
 
+// A read that fails is told on standard error, and nothing is listed. The buffer is as long as refusal 4 asks.
 fn main() {
     let t = read_all();
     if t.state != 1 {

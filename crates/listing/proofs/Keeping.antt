@@ -30,7 +30,7 @@ use Rattle.listing.specs.Listing.{countOf, widthOf, limitOf, pointOf, po
 use Rattle.listing.specs.Steps.{pointFrom, bankIndex}
 use Rattle.listing.proofs.Refusing.{number-1, none-refused}
 
--- ---- how many numbers a text has
+-- ---- a text that 9 doesn't turn back has right many numbers
 none-some : (ns : List ℕ) → _≡_ {A = Option (List ℕ)} none (some ns) → ⊥
 none-some ns e = let z : _≡_ {A = ℕ} 0 1 = cc in omega arith
 
@@ -55,11 +55,13 @@ unfolding readText
 many-read text ns e = many ns (right-of (numbersOf (wordsOf text)) ns e)
 
 -- ---- what is asked for
+-- functions that agree on the numbers counted have the same values
 map-same : (f g : ℕ → Point) (i n : ℕ) → ((k : ℕ) → k < i + n → f k ≡ g k) → map f (countUp i n) ≡ map g (countUp i n)
 unfolding countUp
 map-same f g i zero same = refl
 map-same f g i (suc n) same = ap₂ (λ (p : Point) (ps : List Point). p ∷ ps) (same i (omega arith)) (map-same f g (suc i) n (λ k h. same k (omega arith)))
 
+-- `numbersRefusal` by what the numbers ask for
 abbrev refusalWith : ℕ → ℕ → ℕ → List Point → List ℕ → ℕ
 refusalWith c w L points target =
     refuse (badCount c) 1 (refuse (badWidth w) 2 (refuse (ltb 500 L) 3 (refuse (pointsReach (2 ^ w) c points || reaches (2 ^ w) target) 5 0)))

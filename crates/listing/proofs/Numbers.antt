@@ -31,6 +31,7 @@ point-more numbers words base i v h l e f =
     ∙ ap (λ (n : ℕ). padTo 6 0 (take n rest)) (sym (add-one i))
 
 -- ---- the points
+-- one number more
 count-more : (k : ℕ) → countUp 0 (k + 1) ≡ countUp 0 k ++ (k ∷ [])
 unfolding countUp
 count-more k = count-add 0 k 1 ∙ ap (λ (n : ℕ). countUp 0 k ++ (n ∷ [])) (omega arith)

@@ -33,15 +33,17 @@ widthOf ns = getD ns 1 0
 abbrev pub limitOf : List ℕ → ℕ
 limitOf ns = getD ns 2 0
 
--- the words of point k, and 0 in the places past the variable count
+-- 01, Points: places past the variable count 0. The words of point k
 unfoldable pub pointOf : List ℕ → ℕ → Point
 unfolding padTo
 pointOf ns k = record { words = padTo 6 0 (take (countOf ns) (drop (3 + countOf ns * k) ns)) }
 
+-- all sixteen
 unfoldable pub pointsOf : List ℕ → List Point
 unfolding pointOf countUp
 pointsOf ns = map (pointOf ns) (countUp 0 16)
 
+-- the sixteen words after the points
 unfoldable pub targetOf : List ℕ → List ℕ
 targetOf ns = take 16 (drop (3 + 16 * countOf ns) ns)
 
@@ -79,7 +81,7 @@ listing text = textOf (readText text)
 abbrev pub Laid : List ℕ → List ℕ → ListingAnswer → List ℕ → Type 0
 Laid out out′ r text = (r ≡ Written (length text)) × Wrote out 0 out′ (length text) text
 
--- a buffer shorter than 131,072 is refused 4 and stays as it is
+-- 01, Turned back, 4: a buffer shorter than 131,072 is refused and stays as it is; else the listing of whatever text was read
 pub record Listed (p : Parse) (out out′ : List ℕ) (r : ListingAnswer) : Type 0 where
   pub short : length out < textMax → (r ≡ Refused 4) × (out′ ≡ out)
   pub written : textMax ≤ length out → (text : List ℕ) → length text + 1 < 2 ^ 64 → Reads p text → Laid out out′ r (listing text)

@@ -1,4 +1,4 @@
--- The steps of a listing, as the contracts of src/inner.rt have them; no caller needs it. Assumes nothing.
+-- What the contracts of src/inner.rt cite, beside specs/Listing; no caller of the crate needs it. Assumes nothing.
 use mathlib.Core.Bool.{_||_}
 use mathlib.Core.List.{List, map}
 use Prim.Native.Nat.{ℕ, _+_, _*_, _^_, _≤_}
@@ -20,7 +20,7 @@ use Rattle.listing.specs.Listing.{countOf, widthOf, limitOf, pointsOf, t
 abbrev pub pointFrom : List ℕ → ℕ → ℕ → Point
 pointFrom numbers base nv = record { words = padTo 6 0 (take nv (drop base numbers)) }
 
--- a variable count, a width and a limit that are not refused
+-- 01, Turned back, 1, 2 and 3: a variable count, a width and a limit that are not refused
 pub record InRange (ns : List ℕ) : Type 0 where
   pub some : 1 ≤ countOf ns
   pub few : countOf ns ≤ 6
@@ -28,7 +28,7 @@ pub record InRange (ns : List ℕ) : Type 0 where
   pub narrow : widthOf ns ≤ 64
   pub most : limitOf ns ≤ 500
 
--- 01, Turned back, 5: the last of the row
+-- 01, Turned back, 5: what is left of `numbersRefusal` where 1, 2 and 3 do not apply
 abbrev pub reachRefusal : List ℕ → ℕ
 reachRefusal ns = refuse (pointsReach (2 ^ widthOf ns) (countOf ns) (pointsOf ns) || reaches (2 ^ widthOf ns) (targetOf ns)) 5 0
 

@@ -1,4 +1,4 @@
-// The numbers of a text as a bank build wants them, what is refused of them, and the listing of the rest.
+// Points and target out of the numbers of a text, what is refused of them, and the listing that they ask for.
 use bank::Sizes;
 use entry::ATOM_TOKENS;
 use pairs::PAIR_WORDS;
@@ -27,7 +27,7 @@ const PAIRS_MAX: usize = 500;
 // The words of the work area of bank and index.
 const AREA_WORDS: usize = 4 * (PAIRS_MAX + ATOMS_MAX);
 
-// Where the points begin.
+// Where the points begin among the numbers: after the variable count, the width and L.
 const POINTS_AT: usize = 3;
 
 // A point of nv words from `base` on, zeros past them.

@@ -4,7 +4,7 @@ pub mod inner;
 use parse::Parse;
 ghost use Rattle.listing.specs.Listing.{Listed};
 
-// How long a buffer has to be.
+// How long a buffer has to be: no listing is longer.
 pub const TEXT_MAX: usize = 131072;
 
 // The length of the text in the buffer, or the refusal of a buffer that is too short.

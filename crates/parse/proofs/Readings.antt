@@ -21,6 +21,7 @@ use Rattle.parse.specs.Steps.{Fed, Parted}
 use Rattle.parse.proofs.Words.{digits-snoc, value-snoc, spoils, after-parting, after-other, numbers-of, ahead-before, parted-end}
 
 -- ---- bytes
+-- a digit is one of 48 to 57, and parts nothing
 pub digit-bounds : (b : ℕ) → isDigit b ≡ true → (48 ≤ b) × (b ≤ 57)
 digit-bounds b h = go (leb 48 b) (leb b 57) (leb-true 48 b) (leb-true b 57) h
   where
@@ -39,6 +40,7 @@ moved : (text : List ℕ) (b : ℕ) (rest : List ℕ) → numbersOf (wordsOf ((t
 moved text b rest = ap (λ (l : List ℕ). numbersOf (wordsOf l)) (append-snoc text b rest)
 
 -- ---- the numbers kept
+-- one number more, where there is a place for it and where there is none
 pub keeps-set : (numbers done : List ℕ) (count value : ℕ) → count < kept → length done ≡ count → Keeps numbers done → Keeps (set numbers count value) (done ++ (value ∷ []))
 keeps-set numbers done count value room long k =
     record {

@@ -26,7 +26,7 @@ pub value-snoc : (word : List ℕ) (b : ℕ) → valueOf (word ++ (b ∷ [])) �
 unfolding valueOf
 value-snoc word b = value-after-snoc 0 word b
 
--- ---- a word that is no number stays none, whatever follows
+-- ---- a word that is no number stays none, whatever bytes follow
 stays : (t u : Bool) (v d : ℕ) → (t && ltb v (2 ^ 64)) ≡ false → ((t && u) && ltb (v * 10 + d) (2 ^ 64)) ≡ false
 stays false u v d h = refl
 stays true false v d h = refl

@@ -9,7 +9,7 @@ use Rattle.parse.specs.declared.Parse.{Parse}
 use Rattle.parse.specs.declared.Input.{Input}
 use Rattle.parse.specs.Text.{allDigits, valueOf, numbersOf, wordsOf, wordsAfter, readText}
 
--- how many numbers are kept: 19 + 16 × 6
+-- how many numbers are kept: 19 + 16 × 6, as many as a text of six variables has
 abbrev pub kept : ℕ
 kept = 115
 
@@ -37,7 +37,7 @@ pub record Midway (p : Parse) (text : List ℕ) : Type 0 where
   -- whatever follows, the whole text's numbers are those done and those of the rest
   pub splits : (rest : List ℕ) → numbersOf (wordsOf (text ++ rest)) ≡ ahead done (numbersOf (wordsAfter word rest))
 
--- the state after a text
+-- p is the state after the text; where it is spoilt, no text that begins so has numbers
 pub record Reads (p : Parse) (text : List ℕ) : Type 0 where
   pub midway : p .spoilt ≡ false → Midway p text
   pub spoilt : p .spoilt ≡ true → (rest : List ℕ) → numbersOf (wordsOf (text ++ rest)) ≡ none

@@ -10,11 +10,11 @@ use lib.ListN.{length}
 abbrev pub isParting : ℕ → Bool
 isParting b = eqb b 32 || (eqb b 10 || eqb b 13)
 
--- 01, Turned back, 9: decimals
+-- 01, Turned back, 9: decimals: bytes 48 to 57
 abbrev pub isDigit : ℕ → Bool
 isDigit b = leb 48 b && leb b 57
 
--- a word before other words; an empty one is none. 01: parted by one or more bytes, parting bytes may also come first and last
+-- 01, Turned back, 9: parted by one or more bytes; 01, Listing program: parting bytes may also come first and last. So an empty word before other words is none
 unfoldable pub withWord : List ℕ → List (List ℕ) → List (List ℕ)
 withWord [] words = words
 withWord (b ∷ word) words = (b ∷ word) ∷ words
@@ -30,15 +30,17 @@ unfoldable pub wordsOf : List ℕ → List (List ℕ)
 unfolding wordsAfter
 wordsOf text = wordsAfter [] text
 
+-- whether each byte of a word is a digit
 unfoldable pub allDigits : List ℕ → Bool
 allDigits [] = true
 allDigits (b ∷ word) = isDigit b && allDigits word
 
--- digits, the most significant first, after those of v; leading zeros are allowed
+-- 01, Listing program: leading zeros are allowed. The value of digits, the most significant first, after those of v
 unfoldable pub valueAfter : ℕ → List ℕ → ℕ
 valueAfter v [] = v
 valueAfter v (b ∷ word) = valueAfter (v * 10 + (b - 48)) word
 
+-- the value of a word
 unfoldable pub valueOf : List ℕ → ℕ
 unfolding valueAfter
 valueOf word = valueAfter 0 word
@@ -48,6 +50,7 @@ unfoldable pub isNumber : List ℕ → Bool
 unfolding allDigits valueOf
 isNumber word = allDigits word && ltb (valueOf word) (2 ^ 64)
 
+-- a number before those of the other words, none if these have none
 unfoldable pub before : ℕ → Option (List ℕ) → Option (List ℕ)
 before n none = none
 before n (some ns) = some (n ∷ ns)
@@ -63,12 +66,13 @@ unfoldable pub rightMany : List ℕ → Bool
 rightMany [] = false
 rightMany (n ∷ ns) = eqb (length (n ∷ ns)) (19 + 16 * n)
 
+-- numbers that are right many, none of others
 unfoldable pub ifRight : Option (List ℕ) → Option (List ℕ)
 unfolding rightMany
 ifRight none = none
 ifRight (some ns) = cond (rightMany ns) (some ns) none
 
--- the numbers of a text that 9 doesn't turn back, none of one that it does
+-- 01, Turned back, 9: the numbers of a text that isn't turned back, none of one that is
 unfoldable pub readText : List ℕ → Option (List ℕ)
 unfolding wordsOf numbersOf ifRight
 readText text = ifRight (numbersOf (wordsOf text))

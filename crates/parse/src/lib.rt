@@ -17,13 +17,13 @@ const NUMBERS_LEAST: u64 = 19;
 
 const NUMBERS_MORE: u64 = 16;
 
-// The largest value that a number may have, and the largest that 10 times it may have.
+// The largest value that a number may have, and the largest that may get another digit.
 const VALUE_MAX: u64 = 18446744073709551615;
 
 const VALUE_TENTH: u64 = 1844674407370955161;
 
 // Where a reading stands: the numbers read so far, of which the first are kept; whether it is within a number, and that number's value so far;
-// whether the text is spoilt. Its fields are private: every state comes from `begin` and `feed`, so it has read some text.
+// whether the text is spoilt: refusal 9 lets no text through that begins so. Its fields are private: every state comes from `begin` and `feed`, so it has read some text.
 pub struct Parse {
     numbers: [u64; 115],
     count: u64,
@@ -38,7 +38,7 @@ pub struct Input {
     pub numbers: [u64; 115],
 }
 
-// Nothing is read yet.
+// The state before the first byte.
 pub fn begin() -> Parse
     ensures { λ r. ⌜ Reads r [] ⌝ }
 {
@@ -74,7 +74,7 @@ fn is_digit(b: u8) -> bool
     b <= b'9'
 }
 
-// No text that begins so is let through.
+// Marks the state: no text that begins so is let through.
 fn spoil(mut p: Parse) -> Parse
     ensures { λ r. ⌜ r .spoilt ≡ true ⌝ }
 {
@@ -159,7 +159,7 @@ pub fn feed(p: Parse, part: &[u8]) -> Parse
     q
 }
 
-// Whether there are 19 + 16 × first numbers.
+// Whether there are 19 + 16 × first numbers; the product may not fit a word, so the test divides.
 fn is_right(count: u64, first: u64) -> bool
     ensures { λ r. ⌜ r ≡ eqb count (19 + 16 * first) ⌝ }
 {
@@ -173,7 +173,7 @@ fn is_right(count: u64, first: u64) -> bool
     more / NUMBERS_MORE == first
 }
 
-// The text is at its end.
+// The text is at its end: whether refusal 9 lets it through, and its numbers.
 pub fn finish(p: Parse) -> Input
     ensures { λ r. ⌜ ((text : List ℕ) → length text + 1 < 2 ^ 64 → Reads p text → Ends r text) ⌝ }
 {

@@ -14,7 +14,7 @@ use Rattle.entry.specs.declared.Entry.{Entry}
 use Rattle.entry.specs.Entry.{entryOf}
 use Rattle.parts.specs.Parts.{texts, heldCost, Loaded}
 
--- three elements stored, one after the other
+-- three elements stored one after the other are the whole list of three
 pub three-stored : (l : List ℕ) (a b c : ℕ) → length l ≡ 3 → set (set (set l 0 a) 1 b) 2 c ≡ a ∷ (b ∷ (c ∷ []))
 three-stored [] a b c h = absurd (omega arith)
 three-stored (x ∷ []) a b c h = absurd (omega arith)
@@ -23,6 +23,7 @@ three-stored (x ∷ (y ∷ (z ∷ []))) a b c h = refl
 three-stored (x ∷ (y ∷ (z ∷ (w ∷ l)))) a b c h = absurd (omega arith)
 
 -- ---- the arrays by their fields
+-- four equal arrays are equal together
 pub texts-are : {l l′ o o′ p p′ c c′ : List ℕ} → l ≡ l′ → o ≡ o′ → p ≡ p′ → c ≡ c′ → texts l o p c ≡ texts l′ o′ p′ c′
 texts-are el eo ep ec = λ i. texts (el i) (eo i) (ep i) (ec i)
 

@@ -25,13 +25,14 @@ pub record Texts : Type 0 where
   pub operands : List ℕ
   pub costs : List ℕ
 
+-- the same by their contents, and those of the five
 abbrev pub texts : (lengths ops operands costs : List ℕ) → Texts
 texts l o p c = record { lengths = l; ops = o; operands = p; costs = c }
 
 abbrev pub textsOf : Arrays → Texts
 textsOf a = texts (a .lengths) (a .ops) (a .operands) (a .costs)
 
--- a formula and its cost stored at slot k
+-- a formula and its cost stored at slot k; every other place stays
 abbrev pub putText : Texts → ℕ → Formula → Cost → Texts
 putText t k text cost = record {
   lengths = putPart 1 (t .lengths) k (text .len ∷ []);
@@ -47,6 +48,7 @@ pub record TextRoom (t : Texts) : Type 0 where
   pub operands : 6 * atomsMax ≤ length (t .operands)
   pub costs : 3 * atomsMax ≤ length (t .costs)
 
+-- the same of all five
 pub record Room (a : Arrays) : Type 0 where
   pub texts : TextRoom (textsOf a)
   pub rows : 16 * atomsMax ≤ length (a .rows)

@@ -12,7 +12,7 @@ ghost use Rattle.arith.specs.Parts.{partAt};
 ghost use Rattle.atoms.specs.Encoding.{costNumbers};
 ghost use Rattle.parts.specs.Parts.{arrays, texts, putText, TextRoom, Room, heldCost, putBetter, Loaded};
 
-// ---- into the part that is lent
+// ---- written to a part that is lent
 
 fn write_ops(part: &mut [u8], ops: [u8; 6])
     requires { ⌜ length (now part) ≡ 6 ⌝ }
@@ -37,7 +37,7 @@ fn write_cost(part: &mut [u32], cost: Cost)
     part[2] = cost.depth;
 }
 
-// ---- by value from a slot
+// ---- loaded by value from a slot
 
 fn load_ops(ops: &[u8], slot: AtomSlot) -> [u8; 6]
     requires { ⌜ 6 * slot .0 + 6 ≤ length (now ops) ⌝ }
@@ -123,7 +123,7 @@ pub fn write_text(
     write_cost(&mut costs[three..three + COST_NUMBERS], cost);
 }
 
-// Formula and cost at a slot give way to better ones.
+// Replaces formula and cost at a slot exactly if the new cost is strictly better.
 pub fn replace_if_better(
     lengths: &mut [u32],
     ops: &mut [u8],

@@ -1,4 +1,4 @@
-// One atom's part of each of the bank's lent arrays: formula, cost and row of a slot.
+// One atom's part of each of the bank's lent arrays: formula, cost and row of a slot, as `push` of template_decomposer.rs writes and compares them.
 pub mod inner;
 
 // The cost numbers of an atom.

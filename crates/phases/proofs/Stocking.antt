@@ -92,6 +92,7 @@ stocking-none a work nv w points at k e r = record {
 }
 
 -- ---- the seeds
+-- the formula of a seed
 abbrev seedForm : ℕ → List Token
 seedForm v = Constant v ∷ []
 
@@ -100,7 +101,7 @@ seeds-snoc : (vs : List ℕ) (v : ℕ) → map seedForm (vs ++ (v ∷ [])) ≡ m
 seeds-snoc [] v = refl
 seeds-snoc (x ∷ vs) v = ap (λ (l : List (List Token)). seedForm x ∷ l) (seeds-snoc vs v)
 
--- before seed i, whatever bank was there before the seeds: it has the first i of them
+-- before seed i: whatever bank was there before the seeds, the arrays hold it with the first i of them pushed
 pub record Sowing (old a : Arrays) (work : List ℕ) (w turned : ℕ) (seeds : Seeds) (n i : ℕ) : Type 0 where
   pub few : n ≤ turned + i
   pub ready : Ready a work n
@@ -146,7 +147,7 @@ module _ (w turned : ℕ) (seeds : Seeds) (old a : Arrays) (work : List ℕ) (n 
         (s .bank points (turnedOf nv w points) long (h .bank));
   }
 
--- ---- the phases in a row
+-- ---- the phases one after the other
 -- the bank over what the arrays held before the stock
 pub build-on : (nv w : ℕ) (points : List Point) (target : List ℕ) (a₀ a₁ a₂ a₃ : Arrays) (work₁ work₂ work₃ : List ℕ) (base turned r : ℕ)
     → Phase a₀ a₁ work₁ base (baseOf nv w points) → Phase a₁ a₂ work₂ turned (turnedOf nv w points) → Phase a₂ a₃ work₃ r (bankOf nv w points target)

@@ -1,4 +1,4 @@
-// The stock, the seeds, and the three phases in a row, over arrays that have been tested.
+// The stock, the seeds, and the three phases one after the other, over arrays that have been tested.
 use probe::Point;
 ghost use Rattle.atoms.specs.Stock.{bankOf};
 ghost use Rattle.atoms.specs.Facts.{baseOf};
@@ -6,7 +6,7 @@ ghost use Rattle.parts.specs.Parts.{arrays};
 ghost use Rattle.pool.specs.Pool.{Ready};
 ghost use Rattle.turns.specs.Phases.{Asked, Holding, Phase, Fits, turnedOf};
 
-// The stock into an empty bank: the count.
+// Pushes the stock into an empty bank: the count afterwards.
 fn push_stock(
     lengths: &mut [u32],
     ops: &mut [u8],
@@ -32,7 +32,7 @@ fn push_stock(
     n
 }
 
-// The seeds of the target: the count.
+// Pushes the seeds of the target after the turns: the count afterwards.
 fn push_seeds(
     lengths: &mut [u32],
     ops: &mut [u8],

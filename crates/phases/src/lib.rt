@@ -1,2 +1,3 @@
-// The phases of a bank build: the stock of `populate`, the turns, and the seeds of template_decomposer.rs.
+// The phases of a bank build, one after the other: the stock and the turns of `populate`, then the seeds of `try_template_decomposition`
+// (template_decomposer.rs). The turns themselves are in crate turns.
 pub mod inner;

@@ -28,6 +28,7 @@ use Rattle.pool.specs.Pool.{putEntry, Ready, IsBank, Appended, Pushed, S
 abbrev withRows : Texts → List ℕ → Arrays
 withRows t rows = arrays (t .lengths) (t .ops) (t .operands) (t .costs) rows
 
+-- equal texts beside equal rows
 pub rows-with : {t t′ : Texts} {rows rows′ : List ℕ} → t ≡ t′ → rows ≡ rows′ → withRows t rows ≡ withRows t′ rows′
 rows-with et er = λ i. withRows (et i) (er i)
 
@@ -65,6 +66,7 @@ row-held {old} {now} {n} {bank} is k h = ap (λ (z : Arrays). partAt 16 (z .rows
 
 -- ---- a row that is held, first at slot k
 module _ (bank : List Atom) (old : Arrays) (x : Atom) (k : ℕ) (f : First bank (x .row) k) where
+  -- formulas and costs: replaced exactly as `push` replaces the atom
   held-texts : putBetter (textsOf (written bank old)) k (entryOf x .text) (x .cost) ≡ textsOf (written (push bank x) old)
   held-texts =
       ap (λ (b : Bool). cond b put kept) (ap (isBetter (x .cost)) (cost-held bank old k (f .below)))
@@ -80,6 +82,7 @@ module _ (bank : List Atom) (old : Arrays) (x : Atom) (k : ℕ) (f : First bank 
       go true e = sym (ap textsOf (written-set bank old x k (f .below))) ∙ ap (λ (z : List Atom). textsOf (written z old)) (sym (push-better bank x k f e))
       go false e = ap (λ (z : List Atom). textsOf (written z old)) (sym (push-worse bank x k f e))
 
+  -- rows and count stay
   held-rows : written (push bank x) old .rows ≡ written bank old .rows
   unfolding rowPart
   held-rows = ap (λ (z : List Atom). written z old .rows) (push-held bank x k f) ∙ go (isBetter (x .cost) (getD bank k noAtom .cost))
@@ -95,6 +98,7 @@ module _ (bank : List Atom) (old : Arrays) (x : Atom) (k : ℕ) (f : First bank 
       go true = length-set bank k x
       go false = refl
 
+-- the arm of `push` where the map finds the row
 pub pushed-held : (a : Arrays) (t′ : Texts) (work : List ℕ) (n : ℕ) (e : Entry) (k : ℕ) → Ready a work n → TextRoom t′ → Hit (a .rows) n (e .row) k
     → t′ ≡ putBetter (textsOf a) k (e .text) (e .cost) → Pushed a (withRows t′ (a .rows)) work n e n
 pushed-held a t′ work n e k ready room hit et = record {
@@ -119,6 +123,7 @@ pushed-held a t′ work n e k ready room hit et = record {
         }
 
 -- ---- a new row
+-- an atom stored after the last is the list with it pushed
 new-arrays : (bank : List Atom) (old : Arrays) (x : Atom) → Absent bank (x .row) → length (x .row) ≡ 16
     → putEntry (written bank old) (length bank) (entryOf x) ≡ written (push bank x) old
 new-arrays bank old x none long =
@@ -126,6 +131,7 @@ new-arrays bank old x none long =
     ∙ sym (written-add bank old x)
     ∙ ap (λ (z : List Atom). written z old) (sym (push-new bank x none))
 
+-- the arm of `push` where the map does not find it
 pub pushed-new : (a a′ : Arrays) (work′ : List ℕ) (n : ℕ) (e : Entry) (home : ℕ) → Miss 10 (a .rows) n (e .row) home
     → Appended a a′ work′ n e → Pushed a a′ work′ n e (n + 1)
 pushed-new a a′ work′ n e home miss app = record {
@@ -151,6 +157,7 @@ pushed-new a a′ work′ n e home miss app = record {
         }
 
 -- ---- no atom yet
+-- what `start` leaves
 pub started : (work work′ : List ℕ) → work′ ≡ cleared 10 work → 4 * 479 ≤ length work′ → Started work′
 started work work′ e long = record {
   ready = λ a room. record { room = room; area = long; held = rw e (held-empty work (a .rows) 10) };

@@ -12,7 +12,7 @@ use Rattle.entry.specs.declared.Entry.{Entry}
 use Rattle.entry.specs.Entry.{entryOf}
 use Rattle.parts.specs.Parts.{Room}
 
--- an atom stored at slot k
+-- an atom stored at slot k; every other place stays
 abbrev pub putEntry : Arrays → ℕ → Entry → Arrays
 putEntry a k e = record {
   lengths = putPart 1 (a .lengths) k (e .text .len ∷ []);
@@ -36,13 +36,14 @@ pub record IsBank (old now : Arrays) (n : ℕ) (bank : List Atom) : Type 0 where
   pub wide : (k : ℕ) → k < length bank → length (getD bank k noAtom .row) ≡ 16
   pub distinct : (i j : ℕ) → i < j → j < length bank → getD bank i noAtom .row ≡ getD bank j noAtom .row → ⊥
 
--- 01, Bank: a new row gets the next slot
+-- what `append` does: the atom stands at slot n, and the map holds its row too
 pub record Appended (a a′ : Arrays) (work′ : List ℕ) (n : ℕ) (e : Entry) : Type 0 where
   pub ready : Ready a′ work′ (n + 1)
   pub arrays : a′ ≡ putEntry a n e
   pub wide : length (e .row) ≡ 16
 
--- what `push` does: whatever bank the arrays hold, they hold it with the atom pushed
+-- 01, Bank: a row already held replaces that slot's formula and cost exactly if strictly better; a new one gets the next slot (`push` of atoms specs/Bank).
+-- Whatever bank the arrays hold, they hold it afterwards with the atom pushed
 pub record Pushed (a a′ : Arrays) (work′ : List ℕ) (n : ℕ) (e : Entry) (r : ℕ) : Type 0 where
   pub ready : Ready a′ work′ r
   pub few : (n ≤ r) × (r ≤ n + 1)

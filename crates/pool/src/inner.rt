@@ -1,4 +1,4 @@
-// What the crates above call. The bank's count n is how many atoms it has.
+// What the crates above call with arrays long enough for 479 atoms, and a work area that holds the map of the first n rows; n is how many atoms the bank has.
 use crate::MAP_BITS;
 use entry::Entry;
 use simd::AtomSlot;

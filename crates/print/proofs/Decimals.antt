@@ -23,12 +23,13 @@ digits-more : (k n : ℕ) → 10 ≤ n → digitsOf (suc k) n ≡ digitsOf k (n 
 unfolding digitsOf
 digits-more k n h = simp (le-ltb n 10 h)
 
--- one place more than a number needs changes nothing
+-- one place more than a number needs changes nothing: by the test of the last digit, from the same of a tenth
 same-by : (k n : ℕ) (t : Bool) → ltb n 10 ≡ t → (n / 10 < 10 ^ k → digitsOf (suc k) (n / 10) ≡ digitsOf k (n / 10)) → n / 10 < 10 ^ k → digitsOf (suc (suc k)) n ≡ digitsOf (suc k) n
 same-by k n true e ih h = digits-small (suc k) n (ltb-true n 10 e) ∙ sym (digits-small k n (ltb-true n 10 e))
 same-by k n false e ih h =
     digits-more (suc k) n (ltb-false n 10 e) ∙ ap (λ (l : List ℕ). l ++ ((48 + n % 10) ∷ [])) (ih h) ∙ sym (digits-more k n (ltb-false n 10 e))
 
+-- a tenth has one digit fewer
 tenth : (k n : ℕ) → n < 10 ^ suc k → n / 10 < 10 ^ k
 tenth k n h = omega (arith, pow-suc 10 k)
 
@@ -36,6 +37,7 @@ same : (k n : ℕ) → n < 10 ^ suc k → digitsOf (suc (suc k)) n ≡ digitsOf 
 same zero n h = digits-small 1 n (omega arith) ∙ sym (digits-small 0 n (omega arith))
 same (suc k) n h = same-by (suc k) n (ltb n 10) refl (λ below. same k (n / 10) below) (tenth (suc k) n h)
 
+-- at most as many digits as there are places
 at-most : (k n : ℕ) (t : Bool) → ltb n 10 ≡ t → length (digitsOf k (n / 10)) ≤ k → length (digitsOf (suc k) n) ≤ suc k
 at-most k n true e h = rw (digits-small k n (ltb-true n 10 e)) (omega arith)
 at-most k n false e h = rw (digits-more k n (ltb-false n 10 e)) (simp length-append (omega arith))
@@ -66,6 +68,7 @@ unfolding decimal
 decimal-tenth n f = rw (same 18 (n / 10) (tenth-fits n f)) (digits-length 19 (n / 10))
 
 -- ---- what is written
+-- two texts one after the other
 sets-append : (l : List ℕ) (i : ℕ) (xs ys : List ℕ) → sets l i (xs ++ ys) ≡ sets (sets l i xs) (i + length xs) ys
 sets-append l i [] ys = rw add-zero
 sets-append l i (x ∷ xs) ys =

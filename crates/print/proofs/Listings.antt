@@ -25,6 +25,7 @@ use Rattle.print.specs.Printing.{Wrote, linesText, numbersLine, numbersA
 use Rattle.print.proofs.Decimals.{then, nothing, reads}
 
 -- ---- lines
+-- the lines of two lists one after the other
 flat-append : {A : Type 0} (f : A → List ℕ) (xs ys : List A) → flatMap f (xs ++ ys) ≡ flatMap f xs ++ flatMap f ys
 unfolding flatMap
 flat-append f [] ys = refl
@@ -101,6 +102,7 @@ token-more ops operands i t e =
 
 -- ---- bank and index
 module _ (bank : List Atom) (old : Arrays) where
+  -- the lines printed from the arrays that hold a bank are its atoms' cost lines, and their formulas
   cost-lines : linesText (numbersAt (written bank old .costs)) (length bank) ≡ flatMap (λ (a : Atom). costLine (a .cost)) bank
   unfolding numbersAt costLine
   cost-lines =
@@ -117,6 +119,7 @@ module _ (bank : List Atom) (old : Arrays) where
           ∙ ap₂ (λ (ops operands : List ℕ). formulaLine (tokens (length (getD bank k noAtom .form)) ops operands)) (ops-at bank old k h) (operands-at bank old k h)
           ∙ ap formulaLine (form-back (getD bank k noAtom) (omega (arith, short k h, length-at bank old k h)))
 
+-- and those from the array of an index its pairs'
 pair-lines : (pairs : List Pair) (old : List ℕ) → linesText (numbersAt (spread 3 pairPart pairs old)) (length pairs) ≡ flatMap pairLine pairs
 unfolding numbersAt pairLine
 pair-lines pairs old =

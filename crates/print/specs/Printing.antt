@@ -72,7 +72,7 @@ unfoldable pub numbersAt : List ℕ → ℕ → List ℕ
 unfolding decimal partAt
 numbersAt numbers k = numbersLine (partAt 3 numbers k)
 
--- the line of slot k's formula
+-- the line of slot k's formula in the arrays of lengths, opcodes and operands
 unfoldable pub formulaAt : List ℕ → List ℕ → List ℕ → ℕ → List ℕ
 unfolding formulaLine tokens partAt
 formulaAt lengths ops operands k = formulaLine (tokens (getD lengths k 0) (partAt 6 ops k) (partAt 6 operands k))
@@ -91,7 +91,7 @@ pub record Stored (lengths ops operands : List ℕ) (n : ℕ) : Type 0 where
   pub short : (k : ℕ) → k < n → getD lengths k 0 ≤ 6
 
 -- ---- the listing
--- how long a listing can get: 479 atoms of 6 tokens, 500 pairs
+-- how long a buffer has to be: no listing of 479 atoms of 6 tokens and 500 pairs is longer
 abbrev pub textMax : ℕ
 textMax = 131072
 

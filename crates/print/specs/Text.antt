@@ -26,7 +26,7 @@ decimal n = digitsOf 20 n
 abbrev pub field : ℕ → ℕ → List ℕ
 field n end = decimal n ++ (end ∷ [])
 
--- `atoms `, ` pairs `, `whole`, `cut`, `refused `
+-- 01, Listing program: `atoms `, `pairs `, `whole` and `cut` with the line's end, `refused `
 abbrev pub atomsWord : List ℕ
 atomsWord = 97 ∷ 116 ∷ 111 ∷ 109 ∷ 115 ∷ 32 ∷ []
 
@@ -73,6 +73,7 @@ tokensText [] = []
 tokensText (t ∷ []) = tokenText t
 tokensText (t ∷ (u ∷ ts)) = tokenText t ++ (32 ∷ tokensText (u ∷ ts))
 
+-- 01, Listing program: a formula as a line
 unfoldable pub formulaLine : List Token → List ℕ
 unfolding tokensText
 formulaLine ts = tokensText ts ++ (10 ∷ [])

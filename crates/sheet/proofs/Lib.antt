@@ -1,1 +1,2 @@
+-- The proof of the sheet.
 pub mod Proved

@@ -24,6 +24,7 @@ use Rattle.sheet.specs.Sheet.{Sheet}
 alone : (f : ℕ) → f < 2 ^ 64 → 1 * f % 2 ^ 64 ≡ f
 alone f h = ap (λ (x : ℕ). x % 2 ^ 64) (one-mul f) ∙ mod-eq-of-lt h
 
+-- so t alone solves 1 × f = t
 only : (f t : ℕ) → f < 2 ^ 64 → t < 2 ^ 64 → (solves 64 1 t f ≡ true) ↔ (f ≡ t)
 unfolding solves
 only f t h k = (
@@ -31,11 +32,11 @@ only f t h k = (
   λ e. eq-eqb (1 * f % 2 ^ 64) (t % 2 ^ 64) (alone f h ∙ e ∙ sym (mod-eq-of-lt k)),
 )
 
+-- 1 has no trailing zeros, so that the rule says "used" for every t
 no-zeros : zerosOf 1 ≡ 0
 unfolding trailingZeros
 no-zeros = refl
 
--- 1 has no trailing zeros, so that the rule says "used" for every t
 odd-used : (t : ℕ) → used 1 t ≡ true
 odd-used t = used-few 1 t (λ e. absurd (omega arith)) (omega (arith, no-zeros))
 

@@ -13,10 +13,11 @@ unfoldable pub again : ℕ → List ℕ → List ℕ
 again zero xs = []
 again (suc n) xs = xs ++ again n xs
 
--- points of one variable: its word, then the five places that are ignored
+-- points of one variable: its word, then the five places past the variable count
 unfoldable pub points : List ℕ → List Point
 points xs = map (λ (x : ℕ). record { words = x ∷ replicate 5 0 }) xs
 
+-- the zero target
 abbrev pub zeros : List ℕ
 zeros = replicate 16 0
 
@@ -38,7 +39,7 @@ target10 = replicate 7 1 ++ (4 ∷ replicate 8 0)
 abbrev pub exact : Sizes
 exact = record { lengths = 479; ops = 6 * 479; operands = 6 * 479; costs = 3 * 479; rows = 16 * 479; work = 4 * 479 }
 
--- P1's text in: `1 1 10`, points 0 1 eight times over, target zeros, each number and a blank
+-- P1's text in: the line `1 1 10`, then points 0 1 eight times over and target zeros, a blank after each number
 unfoldable pub input1 : List ℕ
 unfolding again
 input1 = 49 ∷ (32 ∷ (49 ∷ (32 ∷ (49 ∷ (48 ∷ (10 ∷ (again 8 (48 ∷ (32 ∷ (49 ∷ (32 ∷ [])))) ++ again 16 (48 ∷ (32 ∷ [])))))))))

@@ -22,12 +22,13 @@ use Rattle.sheet.specs.Inputs.{again, points, zeros, bank2, bank9, targe
 abbrev pub index3 : ℕ → Index
 index3 L = indexOf 2 L allGates (map (λ (a : Atom). a .row) bank2)
 
--- the first words below 2^w that p × f = t has
+-- P5 to P7: all first words f below 2^w with p × f = t modulo 2^w, ascending
 abbrev pub firstWords : ℕ → ℕ → ℕ → List ℕ
 firstWords w p t = keep (solves w p t) (countUp 0 (2 ^ w))
 
+-- 01, Agreed between us: the sheet's P cases as one joint statement about the definitions
 pub record Sheet : Type 0 where
-  -- P1
+  -- P1: what the listing program writes of its text
   pub p1 : listing input1 ≡ output1
   -- P2: 14 atoms; the last is `v0 v0 * !`, row 3 2 3 2 repeated
   pub p2-count : length bank2 ≡ 14

@@ -12,6 +12,7 @@ use Rattle.abi.specs.Slices.{rowIn, pointsIn, pointsRowRefusal}
 use Rattle.abi.specs.Reply.{refusedReply, numberReply}
 use Rattle.simjaldek.specs.Beside.{BankReplied}
 
+-- a refusal was found before the call
 pub bank-early : (nv w : ℕ) (points target : List ℕ) (lent : Arrays) (work : List ℕ) (found : ℕ) (r : Reply) → found ≡ pointsRowRefusal nv w points target → 0 < found → r ≡ refusedReply found
     → BankReplied nv w points target lent lent work work r
 bank-early nv w points target lent work found r e h t = record {
@@ -19,6 +20,7 @@ bank-early nv w points target lent work found r e h t = record {
   built = λ z. absurd (omega arith);
 }
 
+-- none was found: the points and the target of the call are those of the slices
 pub bank-built : (nv w : ℕ) (points target : List ℕ) (old new : Arrays) (oldWork newWork : List ℕ) (found : ℕ) (ps : List Point) (row : List ℕ) (call : BankAnswer) (r : Reply)
     → found ≡ pointsRowRefusal nv w points target
     → found ≡ 0

@@ -1,4 +1,4 @@
--- The listing of a whole text: it is fed to a reading at once. Assumes nothing.
+-- The listing of a whole text, which is read in one part. Assumes nothing.
 use mathlib.Core.Path.{_≡_, ap, _∙_}
 use mathlib.Core.List.{List}
 use Prim.Native.Nat.{ℕ, _<_, _^_}
@@ -18,6 +18,7 @@ abbrev pub answerText : ListingAnswer → TextReply
 answerText (Written n) = textReply n
 answerText (Refused number) = refusedText number
 
+-- what a listing of a reading promises it promises of the text that was read
 pub texted : (text out out′ : List ℕ) (p : Parse) (call : ListingAnswer) (r : TextReply)
     → (length text < 2 ^ 64 → Reads p text)
     → Listed p out out′ call

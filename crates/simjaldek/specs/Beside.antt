@@ -1,4 +1,4 @@
--- The exports beside whose answers stand arrays. Assumes nothing.
+-- What the exports promise that write into lent arrays beside their reply. Assumes nothing.
 use mathlib.Core.Path.{_≡_}
 use mathlib.Core.List.{List}
 use Prim.Native.Nat.{ℕ, _+_, _≤_, _<_, _^_}
@@ -36,13 +36,13 @@ pub record Banked (nv w : ℕ) (points : List Point) (target : List ℕ) (old ne
   pub promise : BankBuilt nv w points target old new oldWork newWork call
   pub told : r ≡ numberReply (bankSays call)
 
--- 01, Turned back: nothing is written where a call is turned back
+-- 01, Turned back: no buffer changes
 pub record Untouched (number : ℕ) (old new : bank.Arrays) (oldWork newWork : List ℕ) (r : Reply) : Type 0 where
   pub arrays : new ≡ old
   pub work : newWork ≡ oldWork
   pub told : r ≡ refusedReply number
 
--- 01, Agreed: a bank build with its points and its target as slices
+-- 01, Agreed: the result and the final contents of every array, of a bank build with its points and its target as slices
 pub record BankReplied (nv w : ℕ) (points target : List ℕ) (old new : bank.Arrays) (oldWork newWork : List ℕ) (r : Reply) : Type 0 where
   pub early : 0 < pointsRowRefusal nv w points target → Untouched (pointsRowRefusal nv w points target) old new oldWork newWork r
   pub built : pointsRowRefusal nv w points target ≡ 0 → Banked nv w (pointsIn points) (rowIn target) old new oldWork newWork r

@@ -1,4 +1,4 @@
--- The formulas of the stock at their places, and what makes them asks for. Assumes nothing.
+-- The formulas of the stock at their places, and that they pass what `under_unary` and `under_gate` ask for. Assumes nothing.
 use mathlib.Core.Path.{_≡_, sym, ap, _∙_, subst}
 use mathlib.Core.Bool.{Bool, true, cond}
 use mathlib.Core.List.{List, [], _∷_}

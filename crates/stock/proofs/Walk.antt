@@ -68,8 +68,8 @@ skip-rest nv i j h = go (eqb i j) refl
     go false e = refl
 
 -- the differences of variable i, then those of the next
-differences-row : (nv i : ℕ) → i < nv → differencesFrom nv i ≡ differencesOf nv i 0 ++ differencesFrom nv (suc i)
-differences-row nv i h =
+differences-step : (nv i : ℕ) → i < nv → differencesFrom nv i ≡ differencesOf nv i 0 ++ differencesFrom nv (suc i)
+differences-step nv i h =
     from-step (λ (k : ℕ). flatMap (differenceOf k) (countUp 0 nv)) i nv h
     ∙ ap (λ (m : ℕ). flatMap (differenceOf i) (countUp 0 m) ++ differencesFrom nv (suc i)) (sym (sub-zero nv))
 
@@ -83,7 +83,7 @@ difference-rest nv w i j h = go (skipped i j) (skip-rest nv i j h) (le-or-lt nv 
     go s e (inr m) y = rw (lt-ltb s nv m) (ap (λ (z : List (List Token)). z ++ differencesFrom nv (suc i)) (sym e))
     go s e (inl m) (inr y) =
         rw (le-ltb s nv m, lt-ltb (i + 1) nv y)
-        (sym (ap (λ (z : List (List Token)). z ++ differencesFrom nv (suc i)) (e ∙ from-end (differenceOf i) s nv m) ∙ differences-row nv (suc i) (omega arith)
+        (sym (ap (λ (z : List (List Token)). z ++ differencesFrom nv (suc i)) (e ∙ from-end (differenceOf i) s nv m) ∙ differences-step nv (suc i) (omega arith)
         ∙ ap (λ (k : ℕ). differencesOf nv k 0 ++ differencesFrom nv (suc k)) (sym (add-one i))))
     go s e (inl m) (inl y) =
         rw (le-ltb s nv m, le-ltb (i + 1) nv y)
@@ -121,7 +121,7 @@ pair-rest nv w i j h = go (le-or-lt nv (j + 1)) (le-or-lt nv (i + 1))
         rw (le-ltb (j + 1) nv m, le-ltb (i + 1) nv y)
         (ap (λ (z : List (List Token)). z ++ (pairsFrom nv (suc i) ++ differencesFrom nv 0)) (from-end (gatesOf i) (suc j) nv (omega arith))
         ∙ ap (λ (z : List (List Token)). z ++ differencesFrom nv 0) (from-end (λ (k : ℕ). pairsOf nv k k) (suc i) nv (omega arith))
-        ∙ differences-row nv 0 (omega arith) ∙ sym (difference-rest nv w 0 0 (omega arith)))
+        ∙ differences-step nv 0 (omega arith) ∙ sym (difference-rest nv w 0 0 (omega arith)))
 
 -- ---- the variables
 -- after the last form of variable i
@@ -170,7 +170,7 @@ step-rest nv w (Difference i j) h l d =
     (ap (λ (k : ℕ). differencesOf nv i k ++ differencesFrom nv (suc i)) (sym (add-one j)) ∙ sym (difference-rest nv w i (j + 1) (l .left)))
 step-rest nv w Done h l d = absurd (true-not-false d)
 
--- the next place is a place
+-- the place after a place is one of the stock's or the end
 difference-within : (nv i j : ℕ) → i < nv → Within nv (differenceFrom nv i j)
 unfolding differenceFrom
 difference-within nv i j h = go (skipped i j) (apart (eqb i j) refl) (le-or-lt nv (skipped i j)) (le-or-lt nv (i + 1))
@@ -212,7 +212,7 @@ next-within nv (Difference i j) h l = difference-within nv i (j + 1) (l .left)
 next-within nv Done h l = tt
 
 -- ---- what a loop over the stock needs
--- the first place is one
+-- the first place is one of the stock's
 pub first-stands : (nv : ℕ) → 1 ≤ nv → nv ≤ 6 → Stands nv firstOf
 first-stands nv h l = record { least = h; most = l; within = omega arith }
 
@@ -253,7 +253,7 @@ module _ (nv i j s : ℕ) (e : s ≡ skipped i j) where
   difference-none h l =
       sym (λ k. cond (le-ltb s nv h k) (Difference i s) (cond (le-ltb (i + 1) nv l k) (Difference (i + 1) 0) Done)) ∙ chosen-is
 
--- an arm of a match on a place
+-- what an arm of a match on the place `at` tells of it
 pub next-at : {at c : Cursor} (nv : ℕ) (r : Cursor) → at ≡ c → r ≡ nextOf nv c → r ≡ nextOf nv at
 next-at nv r e h = h ∙ ap (nextOf nv) (sym e)
 

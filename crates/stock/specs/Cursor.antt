@@ -23,6 +23,7 @@ constantAt w k = cond (ltb k 3) k (2 ^ w - 1)
 abbrev pub variableAt : ℕ → ℕ → List Token
 variableAt i k = cond (eqb k 0) (T.Variable i ∷ []) (cond (eqb k 1) (T.Variable i ∷ (T.Neg ∷ [])) (T.Variable i ∷ (T.Not ∷ [])))
 
+-- 01, Bank: the two above; per i ≤ j: And, Or, Xor, Add, Mul; per i ≠ j: vi + Neg vj. Past the end there is none: any formula stands for it
 unfoldable pub formOf : ℕ → Cursor → List Token
 formOf w (Constant k) = T.Constant (constantAt w k) ∷ []
 formOf w (Variable i k) = variableAt i k
@@ -31,13 +32,15 @@ formOf w (Difference i j) = T.Variable i ∷ (T.Variable j ∷ (T.Neg ∷ (T.Bin
 formOf w Done = T.Constant 0 ∷ []
 
 -- ---- the place after it
--- the first difference from i and j on: 01, Bank: per i ≠ j
+-- 01, Bank: per i ≠ j: j, or the number after it where j is i
 abbrev pub skipped : ℕ → ℕ → ℕ
 skipped i j = cond (eqb i j) (j + 1) j
 
+-- the first difference at or after i and j
 unfoldable pub differenceFrom : ℕ → ℕ → ℕ → Cursor
 differenceFrom nv i j = cond (ltb (skipped i j) nv) (Difference i (skipped i j)) (cond (ltb (i + 1) nv) (Difference (i + 1) 0) Done)
 
+-- 01, Bank: the order of the constants, the variables' forms, the gates and the differences
 unfoldable pub nextOf : ℕ → Cursor → Cursor
 unfolding differenceFrom
 nextOf nv (Constant k) = cond (ltb (k + 1) 4) (Constant (k + 1)) (Variable 0 0)
@@ -49,9 +52,11 @@ nextOf nv (Pair i j k) =
 nextOf nv (Difference i j) = differenceFrom nv i (j + 1)
 nextOf nv Done = Done
 
+-- the place of constant 0
 abbrev pub firstOf : Cursor
 firstOf = Constant 0
 
+-- whether nothing is left
 abbrev pub isDone : Cursor → Bool
 isDone (Constant k) = false
 isDone (Variable i k) = false
@@ -105,6 +110,7 @@ differencesOf nv i j = flatMap (differenceOf i) (countUp j (nv - j))
 abbrev pub differencesFrom : ℕ → ℕ → List (List Token)
 differencesFrom nv i = flatMap (λ (i : ℕ). flatMap (differenceOf i) (countUp 0 nv)) (countUp i (nv - i))
 
+-- the end of `stock` (atoms specs/Stock) that begins at the place
 unfoldable pub restOf : ℕ → ℕ → Cursor → List (List Token)
 unfolding constants ofVariable gatesOf differenceOf countUp flatMap
 restOf nv w (Constant k) = drop k (constants w) ++ (variablesFrom nv 0 ++ (pairsFrom nv 0 ++ differencesFrom nv 0))

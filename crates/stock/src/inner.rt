@@ -14,7 +14,7 @@ ghost use Rattle.entry.specs.Entry.{entryOf, IsConstant};
 ghost use Rattle.stock.specs.declared.Cursor.the-variants as Place;
 ghost use Rattle.stock.specs.Cursor.{Stands, firstOf, isDone, constantAt, variableAt, formOf, skipped, differenceFrom, nextOf};
 
-// Constants of the stock, the first of which are their own numbers: 0, 1, 2.
+// Constants of the stock, and how many of them, the first, are the numbers of their places: 0, 1, 2.
 const CONSTANTS: u32 = 4;
 
 const OWN_NUMBERS: u32 = 3;
@@ -44,6 +44,7 @@ pub fn is_done(at: Cursor) -> bool
     }
 }
 
+// Constant k of the stock: k itself, and 2^w - 1 as the last.
 fn constant_at(w: u32, k: u32) -> Entry
     requires { ⌜ w ≤ 64 ⌝ }
     ensures { λ r. ⌜ IsConstant w (constantAt w k) r ⌝ }
@@ -55,6 +56,7 @@ fn constant_at(w: u32, k: u32) -> Entry
     }
 }
 
+// Form k of variable i: v, Neg v, Not v.
 fn variable_at(w: u32, points: [Point; 16], i: u32, k: u32) -> Entry
     requires { ⌜ (w ≤ 64) × (i < 6) ⌝ }
     ensures { λ r. ⌜ r ≡ entryOf (atomOf w points (variableAt i k)) ⌝ }
@@ -69,6 +71,7 @@ fn variable_at(w: u32, points: [Point; 16], i: u32, k: u32) -> Entry
     entry::inner::under_unary(v, Unary::Not, w)
 }
 
+// The gate of variables i and j. A variable stands in both operands, so that a Mul counts as a nonlinear product.
 fn pair_at(w: u32, points: [Point; 16], i: u32, j: u32, g: Gate) -> Entry
     requires { ⌜ (w ≤ 64) × ((i < 6) × (j < 6)) ⌝ }
     ensures { λ r. ⌜ r ≡ entryOf (atomOf w points (Variable i ∷ (Variable j ∷ (Binary g ∷ [])))) ⌝ }
@@ -78,6 +81,7 @@ fn pair_at(w: u32, points: [Point; 16], i: u32, j: u32, g: Gate) -> Entry
     entry::inner::under_gate(a, b, g, true, true, w)
 }
 
+// Variable i plus Neg of variable j.
 fn difference_at(w: u32, points: [Point; 16], i: u32, j: u32) -> Entry
     requires { ⌜ (w ≤ 64) × ((i < 6) × (j < 6)) ⌝ }
     ensures { λ r. ⌜ r ≡ entryOf (atomOf w points (Variable i ∷ (Variable j ∷ (Neg ∷ (Binary Add ∷ []))))) ⌝ }
@@ -102,7 +106,7 @@ pub fn entry_at(at: Cursor, nv: u32, w: u32, points: [Point; 16]) -> Entry
     }
 }
 
-// The first difference from i and j on.
+// The place of the first difference at or after variables i and j, none of which is of a variable with itself.
 fn difference_from(nv: u32, i: u32, j: u32) -> Cursor
     requires { ⌜ (i < 6) × (j ≤ 6) ⌝ }
     ensures { λ r. ⌜ r ≡ differenceFrom nv i j ⌝ }
@@ -117,7 +121,7 @@ fn difference_from(nv: u32, i: u32, j: u32) -> Cursor
     Cursor::Done
 }
 
-// j, or the next where it is i.
+// j, or the number after it where j is i.
 fn skip(i: u32, j: u32) -> u32
     requires { ⌜ j ≤ 6 ⌝ }
     ensures { λ r. ⌜ r ≡ skipped i j ⌝ }

@@ -1,4 +1,4 @@
--- Laws of phases of a build, one after the other, over the arrays' contents. Assumes nothing.
+-- Laws of two phases of a build, one after the other: what the second leaves over the first's arrays it leaves over the arrays before both. Assumes nothing.
 use mathlib.Core.Path.{_≡_, sym, ap, _∙_}
 use mathlib.Core.List.{List, _++_}
 use Prim.Native.Nat.{ℕ, _+_, _-_, _*_, _≤_}
@@ -62,7 +62,7 @@ bank-over old a a′ n r bank later h b c = record {
 pub holding : (old a : Arrays) (work : List ℕ) (n : ℕ) (bank : List Atom) → Phase old a work n bank → Holding a work n bank
 holding old a work n bank p = record { ready = p .ready; bank = bank-again old a n bank (p .bank) }
 
--- two phases in a row, where the second bank is not shorter
+-- two phases one after the other, where the second bank is not shorter
 pub phase-on : (old a a′ : Arrays) (work work′ : List ℕ) (n r : ℕ) (bank later : List Atom) → length bank ≤ length later
     → Phase old a work n bank → Phase a a′ work′ r later → Phase old a′ work′ r later
 phase-on old a a′ work work′ n r bank later h p q = record { ready = q .ready; bank = bank-over old a a′ n r bank later h (p .bank) (q .bank) }

@@ -1,4 +1,4 @@
--- The three phases of a bank build: the stock, the turns, the seeds. Assumes nothing.
+-- What a phase of a bank build (the stock, the turns, the seeds) asks for and what it leaves. Assumes nothing.
 use mathlib.Core.List.{List, [], _∷_}
 use Prim.Native.Nat.{ℕ, _*_, _≤_}
 use lib.ListN.{length}
@@ -11,7 +11,7 @@ use Rattle.atoms.specs.Facts.{baseOf}
 use Rattle.parts.specs.Parts.{Room}
 use Rattle.pool.specs.Pool.{Ready, IsBank}
 
--- a count and a width that are not refused
+-- 01, Turned back, 1 and 2: what the build needs of a variable count and a width that are not refused
 pub record Asked (nv w : ℕ) : Type 0 where
   pub least : 1 ≤ nv
   pub most : nv ≤ 6
@@ -27,11 +27,11 @@ pub record Phase (a a′ : Arrays) (work′ : List ℕ) (r : ℕ) (atoms : List 
   pub ready : Ready a′ work′ r
   pub bank : IsBank a a′ r atoms
 
--- 01, Bank: then, for each of the atoms present at that moment, in slot order, Neg and Not
+-- 01, Bank: then, for each of the atoms present at that moment, in slot order, Neg and Not of its formula as it is when its turn comes
 abbrev pub turnedOf : ℕ → ℕ → List Point → List Atom
 turnedOf nv w points = turns w points (Neg ∷ (Not ∷ [])) (baseOf nv w points) 0 (length (baseOf nv w points))
 
--- 01, From heap ..: the sizes that a build needs
+-- 01, From heap ..: lent arrays for 479 atoms, and a work area of 4 × 479
 pub record Fits (a : Arrays) (work : List ℕ) : Type 0 where
   pub room : Room a
   pub area : 4 * atomsMax ≤ length work

@@ -2,7 +2,6 @@
 use entry::Unary;
 use probe::Point;
 use simd::AtomSlot;
-ghost use mathlib.Core.Path.{_≡_};
 ghost use mathlib.Core.List.{[], _∷_};
 ghost use Prim.Native.Nat.{_<_};
 ghost use lib.ListN.{length};
@@ -37,7 +36,7 @@ fn push_turn(
     pool::inner::push(lengths, ops, operands, costs, rows, work, more, inverted)
 }
 
-// A turn for each of the atoms present, in slot order: the count.
+// A turn for each of the `base` atoms present, in slot order, and none for those that the turns add: the count afterwards.
 pub fn push_turns(
     lengths: &mut [u32],
     ops: &mut [u8],

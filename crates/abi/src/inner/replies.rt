@@ -1,4 +1,4 @@
-// The answers that are enums, as replies.
+// The calls' answers as replies: an enum's case as a number beside its values; rows, points and tokens by their words. A refusal has zeros beside it.
 use crate::PointWords;
 use crate::Reply;
 use crate::RowReply;
@@ -51,6 +51,7 @@ pub fn answer(kind: u32, a: u32, b: u32) -> Reply
     }
 }
 
+// Kind 0 nothing, 1 two atoms, 2 an atom and a pair.
 pub fn of_product(x: ProductAnswer) -> Reply
     ensures { λ r. ⌜ r ≡ productReply (productSays x) ⌝ }
 {
@@ -62,6 +63,7 @@ pub fn of_product(x: ProductAnswer) -> Reply
     }
 }
 
+// Kind 1 with the slot, 0 none.
 pub fn of_slot(x: FoundRow) -> Reply
     ensures { λ r. ⌜ r ≡ optionReply (foundSays x) ⌝ }
 {
@@ -72,6 +74,7 @@ pub fn of_slot(x: FoundRow) -> Reply
     }
 }
 
+// The count of atoms.
 pub fn of_bank(x: BankAnswer) -> Reply
     ensures { λ r. ⌜ r ≡ numberReply (bankSays x) ⌝ }
 {
@@ -81,6 +84,7 @@ pub fn of_bank(x: BankAnswer) -> Reply
     }
 }
 
+// 1 for true, 0 for false.
 pub fn mark_of(mark: bool) -> u32
     ensures { λ r. ⌜ r ≡ markOf mark ⌝ }
 {
@@ -90,6 +94,7 @@ pub fn mark_of(mark: bool) -> u32
     0
 }
 
+// The count of pairs, and the mark "cut".
 pub fn of_index(x: IndexAnswer) -> Reply
     ensures { λ r. ⌜ r ≡ indexReply (indexSays x) ⌝ }
 {
@@ -99,6 +104,7 @@ pub fn of_index(x: IndexAnswer) -> Reply
     }
 }
 
+// Kind 1 with the count of candidates, 0 "not used".
 pub fn of_candidates(x: CandidatesAnswer) -> Reply
     ensures { λ r. ⌜ r ≡ optionReply (candidatesSay x) ⌝ }
 {
@@ -109,6 +115,7 @@ pub fn of_candidates(x: CandidatesAnswer) -> Reply
     }
 }
 
+// Kind 1 the same, 0 different.
 pub fn of_match(x: Match) -> Reply
     ensures { λ r. ⌜ r ≡ matchReply (matchSays x) ⌝ }
 {
@@ -138,7 +145,7 @@ pub fn of_row(x: RowAnswer) -> RowReply
     }
 }
 
-// Zeros beside a refusal.
+// A row of zeros beside a refusal.
 pub fn refused_row(refusal: u32) -> RowReply
     ensures { λ r. ⌜ r ≡ refusedRow refusal ⌝ }
 {
@@ -183,7 +190,7 @@ pub fn of_token(t: Token) -> TokenReply
     }
 }
 
-// A gate on two rows, or what completes the second to the first under it, with the gate's number.
+// The gate with number g on two rows, or, where `undo` is set, the row that completes b to the target a under it. Refuses 2, 4, and 6 for a number above 4.
 pub fn of_gate(undo: bool, a: &[u64], b: &[u64], g: u32, w: u32) -> RowReply
     ensures { λ r. ⌜ r ≡ rowOrElse (gateRefusal w (twoShort (now (a .entry)) (now (b .entry))) g) (gateCall undo (gateAt g) w (rowIn (now (a .entry))) (rowIn (now (b .entry)))) ⌝ }
 {

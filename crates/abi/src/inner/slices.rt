@@ -67,7 +67,7 @@ fn point_of(words: &[u64], k: usize) -> Point
     Point { words: point }
 }
 
-// Sixteen points.
+// Sixteen points of six words each.
 pub fn points_of(words: &[u64]) -> [Point; 16]
     requires { ⌜ 96 ≤ length (now words) ⌝ }
     ensures { λ r. ⌜ r ≡ pointsIn (now (words .entry)) ⌝ }
@@ -82,7 +82,7 @@ pub fn points_of(words: &[u64]) -> [Point; 16]
     points
 }
 
-// Whether one of two rows is short.
+// Whether one of two rows has fewer than sixteen words.
 pub fn two_short(a: &[u64], b: &[u64]) -> bool
     ensures { λ r. ⌜ r ≡ twoShort (now (a .entry)) (now (b .entry)) ⌝ }
 {
@@ -92,6 +92,7 @@ pub fn two_short(a: &[u64], b: &[u64]) -> bool
     b.len() < ROW_WORDS
 }
 
+// The same of three.
 pub fn three_short(a: &[u64], b: &[u64], c: &[u64]) -> bool
     ensures { λ r. ⌜ r ≡ threeShort (now (a .entry)) (now (b .entry)) (now (c .entry)) ⌝ }
 {

@@ -1,4 +1,4 @@
--- `compare::compare_all` is safe: arguments are few. Assumes nothing.
+-- `compare::compare_all` is safe: the argument's number stays below 1,000. Assumes nothing.
 use Prim.Native.Nat.{_-_, _≤_}
 use borrow.Author.Needs.{needs}
 use Rattle.compare.proofs.compare_all.Statement.{statement}

@@ -1,6 +1,5 @@
 -- `compare::is_same` is safe: the line's numbers lie in the buffer. Assumes nothing.
 use mathlib.Core.Path.{sym}
-use Prim.Native.Nat.{_-_}
 use borrow.Author.Needs.{needs}
 use lib.Seq.{length-take-le}
 use Rattle.compare.proofs.is_same.Statement.{statement}

@@ -1,4 +1,4 @@
--- Nothing is done and no word is begun, so the text is all rest.
+-- `parse::begin` meets its contract: no number is done and no word is begun, so the text is all rest. Assumes nothing.
 use mathlib.Core.Path.{refl}
 use Rattle.parse.proofs.Readings.{begun}
 use Rattle.parse.proofs.begin.Statement.{statement}

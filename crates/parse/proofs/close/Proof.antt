@@ -1,4 +1,4 @@
--- The word begun is a number, and the numbers done have it as their last; `numbers` has it at the place `count`, if there is one.
+-- `parse::close` meets its contract: the word begun is a number, and the numbers done have it as their last; `numbers` has it at the place `count`, if there is one. Assumes nothing.
 use mathlib.Core.Path.{refl}
 use mathlib.Core.Logic.{inl, inr}
 use native.Mathlib.Omega.{arith}

@@ -1,4 +1,4 @@
--- A number that is begun is closed; else an empty word is none.
+-- `parse::end_number` meets its contract: a number that is begun is closed; else the word is empty, and an empty word is none. Assumes nothing.
 use borrow.Author.Needs.{needs}
 use Rattle.parse.proofs.Readings.{passed}
 use Rattle.parse.proofs.end_number.Statement.{statement}

@@ -1,4 +1,4 @@
--- After i turns the state is that of the text and the first i bytes of the part.
+-- `parse::feed` meets its contract: after i bytes the state is that of the text and the first i bytes of the part. Assumes nothing.
 use borrow.Author.Needs.{needs}
 use native.Mathlib.Omega.{arith}
 use mathlib.Core.Path.{_≡_, sym}

@@ -1,4 +1,4 @@
--- Each kind of byte has its law in Readings.antt.
+-- `parse::feed_byte` meets its contract: each kind of byte has its law in Readings.antt. Assumes nothing.
 use borrow.Author.Needs.{needs}
 use mathlib.Core.Path.{sym, _∙_}
 use Rattle.parse.proofs.Readings.{spoilt-stays, spoilt-by-byte}

@@ -1,4 +1,4 @@
--- A parting byte at the end changes no word, and after it all numbers are done: `rightMany` of them is the test of `count` and the first.
+-- `parse::finish` meets its contract: a parting byte at the end changes no word, and after it all numbers are done: `rightMany` of them is the test of `count` and the first. Assumes nothing.
 use borrow.Author.Needs.{needs}
 use mathlib.Core.Path.{refl}
 use Rattle.parse.proofs.Readings.{ended, ended-spoilt}

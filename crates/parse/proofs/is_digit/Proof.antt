@@ -1,4 +1,4 @@
--- The two tests are those of `isDigit`.
+-- `parse::is_digit` meets its contract: the two tests are those of `isDigit`. Assumes nothing.
 use native.Mathlib.Omega.{arith}
 use borrow.Author.Tests.{le-leb, lt-leb}
 use Rattle.parse.proofs.is_digit.Statement.{statement}

@@ -1,4 +1,4 @@
--- The three tests are those of `isParting`.
+-- `parse::is_parting` meets its contract: the three tests are those of `isParting`. Assumes nothing.
 use borrow.Author.Tests.{eq-eqb, ne-eqb}
 use Rattle.parse.proofs.is_parting.Statement.{statement}
 use Rattle.parse.proofs.is_parting.Tie as tie

@@ -1,4 +1,4 @@
--- Where 19 can be taken away and the rest is a multiple of 16, the quotient is compared; 16 × first is never made.
+-- `parse::is_right` meets its contract: where 19 can be taken away and the rest is a multiple of 16, the quotient is compared; 16 × first, which may not fit a word, is never made. Assumes nothing.
 use mathlib.Core.Path.{_≡_, sym, _∙_}
 use mathlib.Core.Bool.{false}
 use Prim.Native.Nat.{ℕ, _+_, _-_, _*_, _/_, _%_, _≤_, _<_}
@@ -13,10 +13,10 @@ too-few : (n first : ℕ) → n < 19 → eqb n (19 + 16 * first) ≡ false
 too-few n first h = ne-eqb n (19 + 16 * first) (λ e. omega arith)
 
 between : (n first : ℕ) → 19 ≤ n → ((n - 19) % 16 ≡ 0 → ⊥) → eqb n (19 + 16 * first) ≡ false
-between n first h odd = ne-eqb n (19 + 16 * first) (λ e. odd (omega arith))
+between n first h remains = ne-eqb n (19 + 16 * first) (λ e. remains (omega arith))
 
 divided : (n first : ℕ) → 19 ≤ n → (n - 19) % 16 ≡ 0 → eqb ((n - 19) / 16) first ≡ eqb n (19 + 16 * first)
-divided n first h even =
+divided n first h whole =
     elim (ℕ-discrete ((n - 19) / 16) first) [
       | yes e ↦ eq-eqb _ _ e ∙ sym (eq-eqb n (19 + 16 * first) (omega arith))
       | no d ↦ ne-eqb _ _ d ∙ sym (ne-eqb n (19 + 16 * first) (λ e. d (omega arith)))

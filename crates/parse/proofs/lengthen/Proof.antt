@@ -1,4 +1,4 @@
--- A value that 10 times and a digit take to 2^64 or more stays there, so the word is no number whatever follows; else the word has one digit more.
+-- `parse::lengthen` meets its contract: a value that 10 times and a digit take to 2^64 or more stays there, so the word is no number whatever follows; else the word has one digit more. Assumes nothing.
 use native.Mathlib.Omega.{arith}
 use borrow.Author.Needs.{needs}
 use Rattle.parse.proofs.Readings.{digit-bounds, spoilt-by-value, longer}

@@ -11,7 +11,7 @@ ghost use Rattle.expr.specs.Formula.{tokens};
 ghost use Rattle.print.specs.Text.{decimal, tokenText, formulaLine};
 ghost use Rattle.print.specs.Printing.{Wrote, tokenMax, nextMax, formulaMax, tokensMax, Stored, linesText, nextText, formulaAt};
 
-// The places that an atom's tokens have.
+// The token places of an atom in the lent arrays.
 const TOKENS: usize = 6;
 
 // The formulas of the first n atoms.

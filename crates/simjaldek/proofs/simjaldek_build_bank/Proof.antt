@@ -1,4 +1,4 @@
--- `simjaldek_build_bank` meets its contract: refused before the call, or the code of what the call answers. Assumes nothing.
+-- `simjaldek_build_bank` meets its contract: refused before the call, or the reply of what the call answers. Assumes nothing.
 use mathlib.Core.Path.{sym, _∙_}
 use Rattle.parts.specs.Parts.{arrays}
 use Rattle.abi.proofs.Early.{both-long}

@@ -1,4 +1,4 @@
--- `simjaldek_eval` meets its contract: the code of what the call answers. Assumes nothing.
+-- `simjaldek_eval` meets its contract: the reply of what the call answers. Assumes nothing.
 use mathlib.Core.Path.{ap, _∙_}
 use Rattle.abi.specs.Reply.{wordReply}
 use borrow.Author.Needs.{needs}

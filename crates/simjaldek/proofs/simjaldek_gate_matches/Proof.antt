@@ -1,4 +1,4 @@
--- `simjaldek_gate_matches` meets its contract: refused before the call, or the code of what the call answers. Assumes nothing.
+-- `simjaldek_gate_matches` meets its contract: refused before the call, or the reply of what the call answers. Assumes nothing.
 use mathlib.Core.Path.{sym, ap, _∙_}
 use mathlib.Core.List.{List}
 use Prim.Native.Nat.{ℕ}

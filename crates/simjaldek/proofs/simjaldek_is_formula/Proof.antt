@@ -1,4 +1,4 @@
--- `simjaldek_is_formula` meets its contract: the numbers of what the call answers. Assumes nothing.
+-- `simjaldek_is_formula` meets its contract: the mark of what the call answers. Assumes nothing.
 use mathlib.Core.Path.{ap, _∙_}
 use Rattle.abi.specs.Reply.{markOf}
 use borrow.Author.Needs.{needs}

@@ -1,4 +1,4 @@
--- `simjaldek_token_at` meets its contract: the numbers of what the call answers. Assumes nothing.
+-- `simjaldek_token_at` meets its contract: the reply of the token that the call answers. Assumes nothing.
 use mathlib.Core.Path.{ap, _∙_}
 use Rattle.expr.specs.declared.Token.{Token}
 use Rattle.abi.specs.Reply.{tokenReply}

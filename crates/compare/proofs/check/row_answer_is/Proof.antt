@@ -1,6 +1,5 @@
 -- `compare::check::row_answer_is` is safe: a row has sixteen words. Assumes nothing.
 use mathlib.Core.Path.{_≡_}
-use Prim.Native.Nat.{_-_}
 use native.Mathlib.Omega.{arith}
 use borrow.Author.Needs.{needs}
 use lib.ListN.{length}

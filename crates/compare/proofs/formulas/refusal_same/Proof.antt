@@ -1,6 +1,5 @@
 -- `compare::formulas::refusal_same` is safe: the arrays' lengths are at most 80, and they lie in the line. Assumes nothing.
 use mathlib.Core.Path.{sym}
-use Prim.Native.Nat.{_-_}
 use native.Mathlib.Omega.{arith}
 use borrow.Author.Needs.{needs}
 use lib.ListN.{getD}

@@ -1,5 +1,4 @@
 -- `compare::scan::store` is safe: a number is stored below the buffer's length. Assumes nothing.
-use Prim.Native.Nat.{_-_}
 use native.Mathlib.Omega.{arith}
 use borrow.Author.Needs.{needs}
 use lib.ListN.{length-set}

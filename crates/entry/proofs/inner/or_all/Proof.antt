@@ -1,4 +1,4 @@
--- `entry::inner::or_all` meets its contract: what is passed from the end is joined. Assumes nothing.
+-- `entry::inner::or_all` meets its contract: the words passed, from the last on, are joined. Assumes nothing.
 use mathlib.Core.Path.{_≡_, ap, _∙_}
 use Prim.Native.Nat.{ℕ, suc, _-_, _≤_}
 use native.Mathlib.Omega.{arith}

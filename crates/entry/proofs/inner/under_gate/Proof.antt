@@ -1,4 +1,4 @@
--- `entry::inner::under_gate` meets its contract, part by part. Assumes nothing.
+-- `entry::inner::under_gate` meets its contract: text, cost and row are each those of the gate. Assumes nothing.
 use Rattle.entry.proofs.Making.{under-gate-is}
 use borrow.Author.Needs.{needs}
 use Rattle.entry.proofs.inner.under_gate.Statement.{statement}

@@ -1,4 +1,4 @@
--- `entry::inner::under_unary` meets its contract, part by part. Assumes nothing.
+-- `entry::inner::under_unary` meets its contract: text, cost and row are each those under the token. Assumes nothing.
 use Rattle.entry.proofs.Making.{under-unary-is}
 use borrow.Author.Needs.{needs}
 use Rattle.entry.proofs.inner.under_unary.Statement.{statement}

@@ -1,4 +1,4 @@
--- `listing::inner::outside` meets its contract. Assumes nothing.
+-- `listing::inner::outside` meets its contract: the two tests are those of `outsideOf`. Assumes nothing.
 use borrow.Author.Tests.{lt-ltb, le-ltb}
 use Rattle.listing.proofs.inner.outside.Statement.{statement}
 use Rattle.listing.proofs.inner.outside.Tie as tie

@@ -10,7 +10,6 @@ use Rattle.listing.specs.Listing.{pointOf}
 use Rattle.listing.proofs.Numbers.{none-stored, base-more, points-more, points-are}
 use Rattle.listing.proofs.inner.points_of.Statement.{statement}
 use Rattle.listing.proofs.inner.points_of.Tie as tie
-use Rattle.listing.proofs.inner.point_of.Reads as point-of-reads
 
 abbrev Inv-loop : tie.InvT-loop
 Inv-loop numbers nv points₀ base₀ k₀ points base k =

@@ -1,4 +1,4 @@
--- `phases::inner::build` meets its contract: the three phases in a row, each over what the one before it left. Assumes nothing.
+-- `phases::inner::build` meets its contract: the three phases one after the other, each over what the one before it left. Assumes nothing.
 use mathlib.Core.Path.{_∙_}
 use native.Mathlib.Omega.{arith}
 use borrow.Author.Needs.{needs}

@@ -1,4 +1,4 @@
--- `stock::inner::difference_from` meets its contract: what follows in the row of i, else the next row, else nothing. Assumes nothing.
+-- `stock::inner::difference_from` meets its contract: the next difference of variable i, else the first of the next variable, else the end. Assumes nothing.
 use Rattle.stock.proofs.Walk.{difference-here, difference-next, difference-none}
 use borrow.Author.Needs.{needs}
 use Rattle.stock.proofs.inner.difference_from.Statement.{statement}

@@ -1,4 +1,4 @@
--- `replies::of_bank` meets its contract: each case has its numbers. Assumes nothing.
+-- `abi::inner::replies::of_bank` meets its contract: each case has its numbers. Assumes nothing.
 use mathlib.Core.Path.{sym, ap, _∙_}
 use Rattle.bank.specs.declared.BankAnswer.{BankAnswer}
 use Rattle.bank.specs.Build.{bankSays}

@@ -1,4 +1,4 @@
--- `replies::of_candidates` meets its contract: each case has its numbers. Assumes nothing.
+-- `abi::inner::replies::of_candidates` meets its contract: each case has its numbers. Assumes nothing.
 use mathlib.Core.Path.{sym, ap, _∙_}
 use Rattle.candidates.specs.declared.CandidatesAnswer.{CandidatesAnswer}
 use Rattle.candidates.specs.Candidates.{candidatesSay}

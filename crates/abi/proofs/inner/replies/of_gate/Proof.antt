@@ -1,4 +1,4 @@
--- `replies::of_gate` meets its contract: refused before the call, or what the call answers. Assumes nothing.
+-- `abi::inner::replies::of_gate` meets its contract: refused before the call, or what the call answers. Assumes nothing.
 use mathlib.Core.Path.{sym, _∙_}
 use mathlib.Core.List.{List}
 use Prim.Native.Nat.{ℕ}

@@ -1,4 +1,4 @@
--- `replies::of_index` meets its contract: each case has its numbers. Assumes nothing.
+-- `abi::inner::replies::of_index` meets its contract: each case has its numbers. Assumes nothing.
 use mathlib.Core.Path.{sym, ap, _∙_}
 use Prim.Native.Nat.{ℕ}
 use Rattle.index.specs.declared.IndexAnswer.{IndexAnswer}

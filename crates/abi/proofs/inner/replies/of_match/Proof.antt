@@ -1,4 +1,4 @@
--- `replies::of_match` meets its contract: each case has its numbers. Assumes nothing.
+-- `abi::inner::replies::of_match` meets its contract: each case has its numbers. Assumes nothing.
 use mathlib.Core.Path.{sym, ap, _∙_}
 use Rattle.simd.specs.declared.Match.{Match}
 use Rattle.simd.specs.Gates.{matchSays}

@@ -1,4 +1,4 @@
--- `replies::of_points` meets its contract: the points copied and those still to come are the sixteen. Assumes nothing.
+-- `abi::inner::replies::of_points` meets its contract: the points copied and those still to come are the sixteen. Assumes nothing.
 use mathlib.Core.Path.{_≡_, refl, sym, ap, _∙_}
 use mathlib.Core.List.{List, _++_, map, append-nil}
 use Prim.Native.Nat.{ℕ, _-_, _≤_}

@@ -1,4 +1,4 @@
--- `replies::of_product` meets its contract: each case has its numbers. Assumes nothing.
+-- `abi::inner::replies::of_product` meets its contract: each case has its numbers. Assumes nothing.
 use mathlib.Core.Path.{sym, ap, _∙_}
 use Rattle.search.specs.declared.ProductAnswer.{ProductAnswer}
 use Rattle.search.specs.Answer.{productSays}

@@ -1,4 +1,4 @@
--- `replies::of_slot` meets its contract: each case has its numbers. Assumes nothing.
+-- `abi::inner::replies::of_slot` meets its contract: each case has its numbers. Assumes nothing.
 use mathlib.Core.Path.{sym, ap, _∙_}
 use Rattle.lookup.specs.declared.FoundRow.{FoundRow}
 use Rattle.lookup.specs.Lookup.{foundSays}

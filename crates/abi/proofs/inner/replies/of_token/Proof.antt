@@ -1,4 +1,4 @@
--- `replies::of_token` meets its contract: each case has its opcode and its operand. Assumes nothing.
+-- `abi::inner::replies::of_token` meets its contract: each case has its opcode and its operand. Assumes nothing.
 use mathlib.Core.Path.{sym, ap, _∙_}
 use Prim.Native.Nat.{ℕ}
 use Rattle.expr.specs.declared.Token.{Token}

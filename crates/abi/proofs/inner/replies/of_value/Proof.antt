@@ -1,4 +1,4 @@
--- `replies::of_value` meets its contract: each case has its numbers. Assumes nothing.
+-- `abi::inner::replies::of_value` meets its contract: each case has its numbers. Assumes nothing.
 use mathlib.Core.Path.{sym, ap}
 use Rattle.evaluator.specs.declared.Value.{Value}
 use Rattle.evaluator.specs.Answers.{valueSays}

@@ -1,4 +1,4 @@
--- `slices::gate_refusal` meets its contract: the tests stand in the table's order. Assumes nothing.
+-- `abi::inner::slices::gate_refusal` meets its contract: the tests stand in the table's order. Assumes nothing.
 use mathlib.Core.Path.{refl, sym, _∙_}
 use borrow.Author.Tests.{lt-ltb, le-ltb}
 use Rattle.arith.proofs.Refusals.{refused-here, refused-later}

@@ -1,4 +1,4 @@
--- `slices::point_of` meets its contract: the part that is copied is the point's. Assumes nothing.
+-- `abi::inner::slices::point_of` meets its contract: the part that is copied is the point's. Assumes nothing.
 use mathlib.Core.Path.{ap, _∙_}
 use mathlib.Core.List.{List}
 use Prim.Native.Nat.{ℕ}

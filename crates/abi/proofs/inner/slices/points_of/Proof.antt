@@ -1,4 +1,4 @@
--- `slices::points_of` meets its contract: the points loaded and those still to come are the sixteen. Assumes nothing.
+-- `abi::inner::slices::points_of` meets its contract: the points loaded and those still to come are the sixteen. Assumes nothing.
 use mathlib.Core.Path.{_≡_, refl, sym, ap, _∙_}
 use mathlib.Core.List.{_++_, append-nil}
 use Prim.Native.Nat.{ℕ, _-_, _≤_}

@@ -1,4 +1,4 @@
--- `slices::three_short` meets its contract. Assumes nothing.
+-- `abi::inner::slices::three_short` meets its contract: one of the first two is short, or the third. Assumes nothing.
 use mathlib.Core.Path.{refl, sym, _∙_}
 use Rattle.arith.proofs.Refusals.{or-here, or-later}
 use borrow.Author.Needs.{needs}

@@ -1,4 +1,4 @@
--- `slices::two_short` meets its contract. Assumes nothing.
+-- `abi::inner::slices::two_short` meets its contract, row by row. Assumes nothing.
 use mathlib.Core.Path.{refl, sym}
 use borrow.Author.Tests.{lt-ltb, le-ltb}
 use Rattle.arith.proofs.Refusals.{or-here, or-later}
