@@ -123,8 +123,6 @@ abbrev pub tokenReply : Token → TokenReply
 tokenReply t = tokenParts (opcodeOf t) (operandOf t)
 
 -- how long the text is that a call wrote, and the reply of a refusal
-abbrev pub textReply : ℕ → TextReply
-textReply length = record { refusal = 0; length = length }
-
-abbrev pub refusedText : ℕ → TextReply
-refusedText number = record { refusal = number; length = 0 }
+abbrev pub textReply : Outcome ℕ → TextReply
+textReply (refused number) = record { refusal = number; length = 0 }
+textReply (answer length) = record { refusal = 0; length = length }

@@ -12,7 +12,7 @@ use lib.Dec.{ltb}
 use lib.ListN.{length, take, drop, length-drop}
 use lib.Seq.{length-take-le, getD-take, getD-drop, ext-getD}
 use Rattle.arith.specs.Lists.{countUp}
-use Rattle.arith.specs.Refusal.{refuse, badCount, badWidth}
+use Rattle.arith.specs.Refusal.{refuse, badCount, badWidth, answer}
 use Rattle.arith.proofs.Lists.{bool-cases, false-true}
 use Rattle.arith.proofs.Refusals.{within}
 use Rattle.probe.specs.declared.Point.{Point}
@@ -23,7 +23,7 @@ use Rattle.bank.specs.Build.{pointsReach}
 use Rattle.parse.specs.Text.{rightMany, ifRight, numbersOf, wordsOf, readText}
 use Rattle.parse.specs.Reading.{Keeps, Given}
 use Rattle.print.specs.Text.{refusedLine, listingOf}
-use Rattle.print.specs.Printing.{Wrote}
+use Rattle.print.specs.Printing.{Wrote, textMax}
 use Rattle.print.proofs.Decimals.{reads}
 use Rattle.listing.specs.declared.ListingAnswer.the-variants.{Written}
 use Rattle.listing.specs.Listing.{countOf, widthOf, limitOf, pointOf, pointsOf, targetOf, numbersRefusal, bankFor, textFor, textOf, listing, Laid}
@@ -152,11 +152,15 @@ module _ (text : List ℕ) where
         sym (ap (λ (b : Bool). cond b (refusedLine (numbersRefusal ns)) (textFor ns)) t) ∙ sym (ap textOf e)
 
 -- what is written from the buffer's start on
-pub laid : (xs ys : List ℕ) {out out′ : List ℕ} {r : ℕ} → xs ≡ ys → Wrote out 0 out′ r xs → Laid out out′ (Written r) ys
-laid xs ys e w =
+pub laid : (xs ys : List ℕ) {out out′ : List ℕ} {r : ℕ} → xs ≡ ys → Wrote out 0 out′ r xs → r ≤ textMax → Laid out out′ (Written r) ys
+laid xs ys e w h =
     let n : length ys ≡ 0 + length ys = omega arith in
     let same = reads e w in
-    (ap Written (same .next ∙ sym n), record { next = n; laid = same .laid })
+    record {
+      says = ap answer (same .next ∙ sym n);
+      fits = omega (arith, same .next, h);
+      wrote = record { next = n; laid = same .laid };
+    }
 
 -- ---- the numbers of a text that 9 doesn't turn back
 module _ (text numbers : List ℕ) (given : Given numbers text) where

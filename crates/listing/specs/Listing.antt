@@ -7,7 +7,7 @@ use Prim.Native.Nat.{ℕ, _+_, _*_, _^_, _≤_, _<_}
 use lib.Dec.{ltb}
 use lib.ListN.{length, getD, take, drop}
 use Rattle.arith.specs.Lists.{countUp}
-use Rattle.arith.specs.Refusal.{refuse, badCount, badWidth}
+use Rattle.arith.specs.Refusal.{refuse, badCount, badWidth, Outcome, refused, answer}
 use Rattle.probe.specs.declared.Point.{Point}
 use Rattle.atoms.specs.Bank.{Atom}
 use Rattle.atoms.specs.Stock.{bankOf}
@@ -77,11 +77,18 @@ unfolding textOf readText
 listing text = textOf (readText text)
 
 -- ---- the call
+-- what each case of `ListingAnswer` says: its refusal, or how long the text is that stands in the buffer
+abbrev pub listingSays : ListingAnswer → Outcome ℕ
+listingSays (Written n) = answer n
+listingSays (Refused number) = refused number
+
 -- the text is laid from the buffer's start on, and its length is the answer
-abbrev pub Laid : List ℕ → List ℕ → ListingAnswer → List ℕ → Type 0
-Laid out out′ r text = (r ≡ Written (length text)) × Wrote out 0 out′ (length text) text
+pub record Laid (out out′ : List ℕ) (r : ListingAnswer) (text : List ℕ) : Type 0 where
+  pub says : listingSays r ≡ answer (length text)
+  pub fits : length text ≤ textMax
+  pub wrote : Wrote out 0 out′ (length text) text
 
 -- 01, Turned back, 4: a buffer shorter than 131,072 is refused and stays as it is; else the listing of whatever text was read
 pub record Listed (p : Parse) (out out′ : List ℕ) (r : ListingAnswer) : Type 0 where
-  pub short : length out < textMax → (r ≡ Refused 4) × (out′ ≡ out)
+  pub short : length out < textMax → (listingSays r ≡ refused 4) × (out′ ≡ out)
   pub written : textMax ≤ length out → (text : List ℕ) → length text + 1 < 2 ^ 64 → Reads p text → Laid out out′ r (listing text)

@@ -4,13 +4,13 @@ use mathlib.Core.Path.{_≡_, refl, sym, ap, _∙_}
 use mathlib.Core.Bool.{Bool, true, false, _&&_, and-false}
 use mathlib.Core.List.{List, [], _∷_, _++_, append-nil}
 use mathlib.Core.Option.{Option, none, some}
-use Prim.Native.Nat.{ℕ, _+_, _-_, _*_, _%_, _≤_, _<_, _^_}
+use Prim.Native.Nat.{ℕ, zero, suc, _+_, _-_, _*_, _%_, _≤_, _<_, _^_}
 use native.Mathlib.Nat.{mod-eq-of-lt}
 use native.Mathlib.Decide.{ℕ-discrete}
 use native.Mathlib.Omega.{arith}
 use borrow.Author.Tests.{le-ltb, ne-eqb, leb-true}
 use lib.Dec.{eqb, leb}
-use lib.ListN.{length, getD, set, length-append, length-set, List·getD-append}
+use lib.ListN.{length, getD, set, length-append, length-set, List·getD-append, replicate, length-replicate}
 use lib.Seq.{append-snoc, getD-set-same, getD-set-other, getD-at}
 use Rattle.arith.proofs.Lists.{false-true}
 use Rattle.parse.specs.declared.Parse.{Parse}
@@ -53,6 +53,10 @@ keeps-set numbers done count value room long k =
                 let less : i < length done = omega (arith, simp length-append at below) in
                 rw (getD-set-other numbers count i value 0 n, List·getD-append done (value ∷ []) 0 i less) (k .is i small less)
           ];
+      rest =
+          λ i past.
+          let after : length done + 1 ≤ i = omega (arith, simp length-append at past) in
+          rw (getD-set-other numbers count i value 0 (λ e. omega (arith, after, e, long))) (k .rest i (omega (arith, after)));
     }
 
 pub keeps-full : (numbers done : List ℕ) (count value : ℕ) → kept ≤ count → length done ≡ count → Keeps numbers done → Keeps numbers (done ++ (value ∷ []))
@@ -60,17 +64,26 @@ keeps-full numbers done count value full long k =
     record {
       room = k .room;
       is = λ i small below. k .is i small (omega arith) ∙ sym (List·getD-append done (value ∷ []) 0 i (omega arith));
+      rest =
+          λ i past.
+          let after : length done + 1 ≤ i = omega (arith, simp length-append at past) in
+          k .rest i (omega (arith, after));
     }
 
 -- ---- an empty text
+zero-at : (n i : ℕ) → _≡_ {A = ℕ} (getD (replicate n 0) i 0) 0
+zero-at zero i = refl
+zero-at (suc n) zero = refl
+zero-at (suc n) (suc i) = zero-at n i
+
 ahead-none : (rest : Option (List ℕ)) → ahead [] rest ≡ rest
 unfolding ahead
 ahead-none none = refl
 ahead-none (some ns) = refl
 
-pub begun : (p : Parse) → length (p .numbers) ≡ kept → p .count ≡ 0 → p .value ≡ 0 → p .within ≡ false → p .spoilt ≡ false → Reads p []
+pub begun : (p : Parse) → p .numbers ≡ replicate kept 0 → p .count ≡ 0 → p .value ≡ 0 → p .within ≡ false → p .spoilt ≡ false → Reads p []
 unfolding allDigits valueOf wordsOf
-begun p room count value between clean =
+begun p zeros count value between clean =
     record {
       midway =
           λ _.
@@ -79,7 +92,12 @@ begun p room count value between clean =
             word = [];
             few = omega arith;
             count = count;
-            keeps = record { room = room; is = λ i small below. absurd (omega arith) };
+            keeps =
+                record {
+                  room = ap length zeros ∙ length-replicate {A = ℕ} kept 0;
+                  is = λ i small below. absurd (omega arith);
+                  rest = λ i past. ap (λ (l : List ℕ). getD l i 0) zeros ∙ zero-at kept i;
+                };
             digits = refl;
             value = value;
             begun = λ e. absurd (false-true (sym between ∙ e));
@@ -240,20 +258,22 @@ all-done q text m none-begun =
     ∙ ap (λ w. ahead (m .done) (numbersOf (wordsAfter w []))) none-begun
     ∙ ap (λ (l : List ℕ). some l) (append-nil (m .done))
 
-pub ended : (p q : Parse) (r : Input) → p .spoilt ≡ false → Parted p q → r .numbers ≡ q .numbers → r .fits ≡ eqb (q .count) (19 + 16 * getD (q .numbers) 0 0)
+pub ended : (p q : Parse) (r : Input) → p .spoilt ≡ false → Parted p q → (r .fits ≡ true → r .numbers ≡ q .numbers) → (r .fits ≡ false → r .numbers ≡ replicate kept 0)
+    → r .fits ≡ eqb (q .count) (19 + 16 * getD (q .numbers) 0 0)
     → (text : List ℕ) → length text + 1 < 2 ^ 64 → Reads p text → Ends r text
 unfolding readText ifRight
-ended p q r clean parted numbers fits text small h =
+ended p q r clean parted numbers zeros fits text small h =
     let m = parted .reads 32 refl text small h .midway (parted .clean) in
     let all = all-done q text m (m .between (parted .between)) in
     let right = right-is (q .numbers) (m .done) (q .count) (m .keeps) (m .count) ∙ sym fits in
     record {
-      given = λ yes. record { ns = m .done; is = rw (all, right, yes); keeps = rw numbers (m .keeps) };
+      given = λ yes. record { ns = m .done; is = rw (all, right, yes); keeps = rw (numbers yes) (m .keeps) };
       refused = λ no. rw (all, right, no);
+      zeros = zeros;
     }
 
-pub ended-spoilt : (p : Parse) (r : Input) → p .spoilt ≡ true → r .fits ≡ false → (text : List ℕ) → Reads p text → Ends r text
+pub ended-spoilt : (p : Parse) (r : Input) → p .spoilt ≡ true → r .fits ≡ false → r .numbers ≡ replicate kept 0 → (text : List ℕ) → Reads p text → Ends r text
 unfolding readText ifRight
-ended-spoilt p r bad fits text h =
+ended-spoilt p r bad fits zeros text h =
     let all = ap (λ (l : List ℕ). numbersOf (wordsOf l)) (sym (append-nil text)) ∙ h .spoilt bad [] in
-    record { given = λ yes. absurd (false-true (sym fits ∙ yes)); refused = λ _. rw all }
+    record { given = λ yes. absurd (false-true (sym fits ∙ yes)); refused = λ _. rw all; zeros = λ _. zeros }

@@ -4,7 +4,7 @@ use mathlib.Core.Bool.{true, false}
 use mathlib.Core.List.{List, [], _++_}
 use mathlib.Core.Option.{Option, none, some}
 use Prim.Native.Nat.{ℕ, _≤_, _<_}
-use lib.ListN.{length, getD}
+use lib.ListN.{length, getD, replicate}
 use Rattle.parse.specs.declared.Parse.{Parse}
 use Rattle.parse.specs.declared.Input.{Input}
 use Rattle.parse.specs.Text.{allDigits, valueOf, numbersOf, wordsOf, wordsAfter, readText}
@@ -13,10 +13,11 @@ use Rattle.parse.specs.Text.{allDigits, valueOf, numbersOf, wordsOf, wor
 abbrev pub kept : ℕ
 kept = 115
 
--- the kept numbers are the first of ns
+-- the kept numbers are the first of ns, and zeros after them
 pub record Keeps (numbers ns : List ℕ) : Type 0 where
   pub room : length numbers ≡ kept
   pub is : (i : ℕ) → i < kept → i < length ns → getD numbers i 0 ≡ getD ns i 0
+  pub rest : (i : ℕ) → length ns ≤ i → getD numbers i 0 ≡ 0
 
 -- the numbers done and then those of the rest, none if the rest has none
 unfoldable pub ahead : List ℕ → Option (List ℕ) → Option (List ℕ)
@@ -52,3 +53,5 @@ pub record Given (numbers text : List ℕ) : Type 0 where
 pub record Ends (r : Input) (text : List ℕ) : Type 0 where
   pub given : r .fits ≡ true → Given (r .numbers) text
   pub refused : r .fits ≡ false → readText text ≡ none
+  -- 01, Turned back: an array handed back by value holds only zeros
+  pub zeros : r .fits ≡ false → r .numbers ≡ replicate kept 0

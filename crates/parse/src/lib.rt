@@ -185,6 +185,14 @@ pub fn finish(p: Parse) -> Input
     }
     let q = end_number(p);
     let numbers = q.numbers;
-    let fits = is_right(q.count, numbers[0]);
-    Input { fits, numbers }
+    if is_right(q.count, numbers[0]) {
+        return Input {
+            fits: true,
+            numbers,
+        };
+    }
+    Input {
+        fits: false,
+        numbers: [0; NUMBERS_MAX],
+    }
 }

@@ -7,16 +7,14 @@ use lib.ListN.{length}
 use Rattle.parse.specs.declared.Parse.{Parse}
 use Rattle.parse.specs.Reading.{Reads}
 use Rattle.listing.specs.declared.ListingAnswer.{ListingAnswer}
-use Rattle.listing.specs.declared.ListingAnswer.the-variants.{Written, Refused}
-use Rattle.listing.specs.Listing.{Listed}
+use Rattle.listing.specs.Listing.{listingSays, Listed}
 use Rattle.abi.specs.declared.TextReply.{TextReply}
-use Rattle.abi.specs.Reply.{textReply, refusedText}
+use Rattle.abi.specs.Reply.{textReply}
 use Rattle.simjaldek.specs.Beside.{Texted}
 
 -- the answer by numbers
 abbrev pub answerText : ListingAnswer → TextReply
-answerText (Written n) = textReply n
-answerText (Refused number) = refusedText number
+answerText call = textReply (listingSays call)
 
 -- what a listing of a reading promises it promises of the text that was read
 pub texted : (text out out′ : List ℕ) (p : Parse) (call : ListingAnswer) (r : TextReply)
@@ -25,8 +23,8 @@ pub texted : (text out out′ : List ℕ) (p : Parse) (call : ListingAnswer) (r 
     → r ≡ answerText call
     → Texted text out out′ r
 texted text out out′ p call r read l e = record {
-  short = λ h. (e ∙ ap answerText (l .short h .0), l .short h .1);
+  short = λ h. (e ∙ ap textReply (l .short h .0), l .short h .1);
   written = λ h k.
       let laid = l .written h text k (read (omega (arith, k))) in
-      (e ∙ ap answerText (laid .0), laid .1);
+      record { told = e ∙ ap textReply (laid .says); fits = laid .fits; wrote = laid .wrote };
 }

@@ -3,6 +3,7 @@ use mathlib.Core.Path.{_≡_}
 use mathlib.Core.List.{List}
 use Prim.Native.Nat.{ℕ, _+_, _≤_, _<_, _^_}
 use lib.ListN.{length}
+use Rattle.arith.specs.Refusal.{refused, answer}
 use Rattle.probe.specs.declared.Point.{Point}
 use Rattle.atoms.specs.Encoding as bank
 use Rattle.bank.specs.declared.BankAnswer.{BankAnswer}
@@ -16,7 +17,7 @@ use Rattle.listing.specs.Listing.{listing}
 use Rattle.abi.specs.declared.Reply.{Reply}
 use Rattle.abi.specs.declared.TextReply.{TextReply}
 use Rattle.abi.specs.Slices.{rowIn, pointsIn, pointsRowRefusal}
-use Rattle.abi.specs.Reply.{refusedReply, optionReply, numberReply, indexReply, textReply, refusedText}
+use Rattle.abi.specs.Reply.{refusedReply, optionReply, numberReply, indexReply, textReply}
 
 -- 01, Agreed: the result and the final contents of every array: an answer of `build_index` with its own promise, and the reply is that answer by numbers
 pub record Indexed (w count : ℕ) (rows : List ℕ) (L : ℕ) (old new : Arrays) (r : Reply) : Type 0 where
@@ -47,7 +48,13 @@ pub record BankReplied (nv w : ℕ) (points target : List ℕ) (old new : bank.A
   pub early : 0 < pointsRowRefusal nv w points target → Untouched (pointsRowRefusal nv w points target) old new oldWork newWork r
   pub built : pointsRowRefusal nv w points target ≡ 0 → Banked nv w (pointsIn points) (rowIn target) old new oldWork newWork r
 
+-- a text laid from the buffer's start on: the reply is its length, and it fits
+pub record TextLaid (out out′ : List ℕ) (r : TextReply) (text : List ℕ) : Type 0 where
+  pub told : r ≡ textReply (answer (length text))
+  pub fits : length text ≤ textMax
+  pub wrote : Wrote out 0 out′ (length text) text
+
 -- 01, Listing program: the listing of a whole text, laid from the buffer's start on; a buffer shorter than 131,072 is refused 4 and stays as it is
 pub record Texted (text out out′ : List ℕ) (r : TextReply) : Type 0 where
-  pub short : length out < textMax → (r ≡ refusedText 4) × (out′ ≡ out)
-  pub written : textMax ≤ length out → length text + 1 < 2 ^ 64 → (r ≡ textReply (length (listing text))) × Wrote out 0 out′ (length (listing text)) (listing text)
+  pub short : length out < textMax → (r ≡ textReply (refused 4)) × (out′ ≡ out)
+  pub written : textMax ≤ length out → length text + 1 < 2 ^ 64 → TextLaid out out′ r (listing text)

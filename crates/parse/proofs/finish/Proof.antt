@@ -1,12 +1,13 @@
 -- `parse::finish` meets its contract: a parting byte at the end changes no word, and after it all numbers are done: `rightMany` of them is the test of `count` and the first. Assumes nothing.
 use borrow.Author.Needs.{needs}
-use mathlib.Core.Path.{refl}
+use mathlib.Core.Path.{refl, sym, _∙_}
+use Rattle.arith.proofs.Refusals.{true-not-false}
 use Rattle.parse.proofs.Readings.{ended, ended-spoilt}
 use Rattle.parse.proofs.finish.Statement.{statement}
 use Rattle.parse.proofs.finish.Tie as tie
 
 returns : tie.Need-returns
-returns c = λ text small h. ended-spoilt _ _ (c .if1 .taken) refl text h
+returns c = λ text small h. ended-spoilt _ _ (c .if1 .taken) refl refl text h
 
 end-number-requires : tie.Need-end-number-requires
 end-number-requires c κs = search needs
@@ -18,8 +19,15 @@ is-right-requires : tie.Need-is-right-requires
 is-right-requires c κs = search needs
 
 returns-2 : tie.Need-returns-2
-returns-2 c = ended _ _ _ (c .before .before .before .if1 .left) (c .before .before .end-number .ensures) refl (c .is-right .ensures)
+returns-2 c =
+    let q = c .before .before .before in
+    ended _ _ _ (q .before .if1 .left) (q .end-number .ensures) (λ _. refl) (λ e. absurd (true-not-false e)) (sym (c .if2 .taken) ∙ c .before .is-right .ensures)
+
+returns-3 : tie.Need-returns-3
+returns-3 c =
+    let q = c .before .before .before in
+    ended _ _ _ (q .before .if1 .left) (q .end-number .ensures) (λ e. absurd (true-not-false (sym e))) (λ _. refl) (sym (c .if2 .left) ∙ c .before .is-right .ensures)
 
 pub finish-spec : {M : Type 1} → statement M
 finish-spec =
-    tie.close (tie.spec returns end-number-requires array-read-is-right is-right-requires returns-2)
+    tie.close (tie.spec returns end-number-requires array-read-is-right is-right-requires returns-2 returns-3)

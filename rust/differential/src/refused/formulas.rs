@@ -42,7 +42,7 @@ pub fn compare(inputs: &mut Inputs, report: &mut Report) {
         let ours = lent::is_formula(num_vars, tokens);
         report.compare(Kind::FormulaTest, &input, &ours, &is);
     }
-    let at = inputs.below(tokens.count as u64 + 2) as usize;
+    let at = inputs.below(tokens.ops.len() as u64 + 2) as usize;
     let ours = lent::token_at(tokens.ops, tokens.operands, at);
     let theirs = token_at(tokens, at);
     report.compare(Kind::Token, &(input, at), &ours, &theirs);
