@@ -1,17 +1,17 @@
 -- Laws of the candidates' answer: what is known where nothing is refused, and what each answer says. Assumes nothing.
 use mathlib.Core.Path.{_≡_, refl, sym, ap, _∙_, subst}
-use mathlib.Core.Bool.{Bool, true, false, not, _||_, cond}
+use mathlib.Core.Bool.{Bool, true, false, _||_, cond}
 use mathlib.Core.List.{List, [], _++_}
 use mathlib.Core.Option.{none, some}
 use Prim.Native.Nat.{ℕ, _/_, _^_, _≤_, _<_}
 use native.Mathlib.Omega.{arith}
-use borrow.Author.Tests.{ltb-false, leb-false}
+use borrow.Author.Tests.{ltb-false, leb-false, not-false}
 use lib.Dec.{leb, ltb}
 use lib.ListN.{length, take, drop}
 use Rattle.arith.specs.Lists.{keep}
 use Rattle.arith.specs.Refusal.{badWidth, refused, answer}
 use Rattle.arith.proofs.Lists.{keep-none, keep-same}
-use Rattle.arith.proofs.Refusals.{true-not-false, within, passed, neither, enough, unless-refused, unless-not}
+use Rattle.arith.proofs.Refusals.{within, passed, neither, enough, unless-refused, unless-not}
 use Rattle.order.specs.Order.{firstWord, orderOf, isOrder}
 use Rattle.order.proofs.OrderLaws.{order-exactly}
 use Rattle.solve.specs.Equation.{used, solves}
@@ -34,14 +34,6 @@ pub record Passed (w n : ℕ) (rows order : List ℕ) (p t : ℕ) (list : List �
   pub t-below : t < 2 ^ w
   pub ordered : Ordered n rows order
   pub room : n ≤ length list
-
-pub not-false : (b : Bool) → not b ≡ false → b ≡ true
-not-false true e = refl
-not-false false e = absurd (true-not-false e)
-
-pub not-true : (b : Bool) → not b ≡ true → b ≡ false
-not-true true e = absurd (true-not-false (sym e))
-not-true false e = refl
 
 pub none-refused : (w n : ℕ) (rows order : List ℕ) (p t : ℕ) (list : List ℕ) → candidatesRefusal w n rows order p t list ≡ 0 → Passed w n rows order p t list
 none-refused w n rows order p t list e =
