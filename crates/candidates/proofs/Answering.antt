@@ -1,5 +1,5 @@
 -- Laws of the candidates' answer: what is known where nothing is refused, and what each answer says. Assumes nothing.
-use mathlib.Core.Path.{_≡_, refl, sym, ap, _∙_, subst}
+use mathlib.Core.Path.{_≡_, sym, ap, _∙_}
 use mathlib.Core.Bool.{Bool, true, false, _||_, cond}
 use mathlib.Core.List.{List, [], _++_}
 use mathlib.Core.Option.{none, some}
@@ -15,9 +15,7 @@ use Rattle.arith.proofs.Refusals.{within, passed, neither, enough, unless-refus
 use Rattle.order.specs.Order.{firstWord, orderOf, isOrder}
 use Rattle.order.proofs.OrderLaws.{order-exactly}
 use Rattle.solve.specs.Equation.{used, solves}
-use Rattle.solve.specs.declared.inner.Solution.{Solution}
-use Rattle.solve.specs.declared.inner.Solution.the-variants.{Class, Nothing}
-use Rattle.solve.specs.Solved.{IsClass, IsNone, Solved}
+use Rattle.solve.specs.Solved.{IsClass, IsNone}
 use Rattle.filter.specs.declared.inner.Residue.{Residue}
 use Rattle.filter.specs.Places.{Ordered}
 use Rattle.filter.specs.Refusals.{shortPairs, wrongOrder}
@@ -58,14 +56,7 @@ none-refused w n rows order p t list e =
       room = ltb-false _ _ (lists .1);
     }
 
--- ---- what `solve` says
-module _ {w p t : ℕ} {r : Solution} (solved : Solved w p t r) where
-  pub solved-class : {bits first : ℕ} → r ≡ Class bits first → IsClass w p t bits first
-  solved-class e = subst (Solved w p t) e solved
-
-  pub solved-none : r ≡ Nothing → IsNone w p t
-  solved-none e = subst (Solved w p t) e solved
-
+-- ---- the class of the solutions
 abbrev pub classOf : ℕ → ℕ → ℕ → Residue
 classOf w bits first = record { w = w; bits = bits; first = first }
 

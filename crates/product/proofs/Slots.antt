@@ -17,9 +17,7 @@ use Rattle.arith.proofs.Remainders.{modulus-is, mod-mul-mod}
 use Rattle.order.specs.Order.{firstWord, orderOf}
 use Rattle.order.proofs.OrderLaws.{order-exactly}
 use Rattle.solve.specs.Equation.{used, solves}
-use Rattle.solve.specs.Solved.{Asked, Solved, IsClass, IsNone}
-use Rattle.solve.specs.declared.inner.Solution.{Solution}
-use Rattle.solve.specs.declared.inner.Solution.the-variants.{Class, Nothing}
+use Rattle.solve.specs.Solved.{Asked, IsClass, IsNone}
 use Rattle.filter.specs.declared.inner.Residue.{Residue}
 use Rattle.filter.specs.declared.inner.Sweep.{Sweep}
 use Rattle.filter.specs.Places.{Ordered, Skips}
@@ -49,13 +47,6 @@ module _ (w : ℕ) (target xs ys : List ℕ) (a b : ℕ) (ok : Target w target) 
   first-not x y p ex ey e n =
       is-false (fitsAt w target xs a ys b)
       (λ f. n (e ∙ ap₂ (λ (x y : ℕ). (x * y) % modulus w) ex ey ∙ ap (λ (m : ℕ). (firstWord xs a * firstWord ys b) % m) (modulus-is w (ok .width)) ∙ first-product f))
-
--- ---- what a solution says
-pub solved-class : (w p t : ℕ) (r : Solution) (bits first : ℕ) → r ≡ Class bits first → Solved w p t r → IsClass w p t bits first
-solved-class w p t r bits first e s = subst (Solved w p t) e s
-
-pub solved-none : (w p t : ℕ) (r : Solution) → r ≡ Nothing → Solved w p t r → IsNone w p t
-solved-none w p t r e s = subst (Solved w p t) e s
 
 -- ---- p is the first word of atom a, reduced
 module _ (w : ℕ) (target atoms listed : List ℕ) (a : ℕ) (ok : Target w target) (p : ℕ) (is : p ≡ firstWord atoms a % modulus w) where
