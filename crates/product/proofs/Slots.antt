@@ -1,7 +1,7 @@
 -- Laws of the slots that are tried with one atom: those that fit solve the equation of the first words, so others may be skipped. Assumes nothing.
-use mathlib.Core.Path.{_≡_, refl, sym, ap, ap₂, _∙_, subst}
+use mathlib.Core.Path.{_≡_, sym, ap, ap₂, _∙_, subst}
 use mathlib.Core.Bool.{Bool, true, false}
-use mathlib.Core.List.{List, [], _∷_}
+use mathlib.Core.List.{List}
 use mathlib.Core.Option.{none}
 use Prim.Native.Nat.{ℕ, _+_, _*_, _%_, _^_, _≤_, _<_}
 use native.Mathlib.Nat.{mod-lt, mod-eq-of-lt}
@@ -11,7 +11,7 @@ use lib.ListN.{getD, take, drop}
 use lib.Pow.{pow-pos}
 use Rattle.arith.specs.Lists.{countUp, firstThat}
 use Rattle.arith.specs.Word.{modulus}
-use Rattle.arith.proofs.Lists.{is-false, first-no}
+use Rattle.arith.proofs.Lists.{is-false, first-none}
 use Rattle.arith.proofs.Refusals.{true-not-false}
 use Rattle.arith.proofs.Remainders.{modulus-is, mod-mul-mod}
 use Rattle.order.specs.Order.{firstWord, orderOf}
@@ -26,12 +26,6 @@ use Rattle.filter.proofs.PlaceLaws.{skips-join, skips-narrow, first-skips}
 use Rattle.product.specs.Trying.{slotsFor}
 use Rattle.product.specs.Steps.{fitsAt, Target, Narrows}
 use Rattle.product.proofs.Trials.{fits-lane}
-
--- nothing passes
-none-pass : (test : ℕ → Bool) → ((s : ℕ) → test s ≡ false) → (l : List ℕ) → firstThat test l ≡ none
-unfolding firstThat
-none-pass test h [] = refl
-none-pass test h (s ∷ l) = first-no test s l (h s) ∙ none-pass test h l
 
 first-place-is : (s : ℕ) → 16 * s + 0 ≡ 16 * s
 first-place-is s = omega arith
@@ -88,8 +82,8 @@ module _ (w : ℕ) (target atoms listed : List ℕ) (a : ℕ) (ok : Target w tar
 
   pub none-fits : IsNone w p (getD target 0 0) → (l : List ℕ) → firstThat (fitsAt w target atoms a listed) l ≡ none
   none-fits no′ l =
-      none-pass (fitsAt w target atoms a listed)
-      (λ s. is-false (fitsAt w target atoms a listed s) (λ e. true-not-false (sym (fit-solves s e) ∙ no′ .is (firstWord listed s)))) l
+      first-none (fitsAt w target atoms a listed) l
+      (λ s _. is-false (fitsAt w target atoms a listed s) (λ e. true-not-false (sym (fit-solves s e) ∙ no′ .is (firstWord listed s))))
 
   module _ (bits first : ℕ) (class : IsClass w p (getD target 0 0) bits first) where
     pub narrows : Narrows w target atoms a listed record { w = w; bits = bits; first = first }
