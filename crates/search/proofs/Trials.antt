@@ -2,13 +2,13 @@
 use mathlib.Core.Path.{_≡_, refl, sym, ap, _∙_, subst}
 use mathlib.Core.Bool.{Bool, true, false, cond}
 use mathlib.Core.Logic.{inl, inr}
-use mathlib.Core.List.{List, [], _∷_, _++_, map}
+use mathlib.Core.List.{List, _++_, map}
 use mathlib.Core.Option.{none}
 use Prim.Native.Nat.{ℕ, _+_, _*_, _%_, _^_, _<_}
 use native.Mathlib.Omega.{arith}
 use lib.ListN.{length, getD, length-map}
 use lib.Seq.{ext-getD}
-use Rattle.arith.specs.Lists.{countUp, In, firstThat}
+use Rattle.arith.specs.Lists.{countUp, In}
 use Rattle.arith.specs.Parts.{partAt}
 use Rattle.arith.proofs.Lists.{in-left, in-right, in-split, in-map, map-in, in-flat, flat-in, in-count, count-in, getD-map, in-at, in-place, first-none, none-passes}
 use Rattle.simd.specs.Gates.{gateOf, gateRow}
