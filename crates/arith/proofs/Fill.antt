@@ -23,6 +23,14 @@ filled-more f l i v h below e =
 pub filled-all : (f : ℕ → ℕ) (l r : List ℕ) (i : ℕ) → length l ≡ length r → length l ≤ i → Filled f l i → Filled f r (length r) → l ≡ r
 filled-all f l r i e h below right = ext-getD 0 l r e (λ k lt. below k (omega arith) ∙ sym (right k (omega arith)))
 
+-- three elements stored, one after the other
+pub three-stored : (l : List ℕ) (a b c : ℕ) → length l ≡ 3 → set (set (set l 0 a) 1 b) 2 c ≡ a ∷ (b ∷ (c ∷ []))
+three-stored [] a b c h = absurd (omega arith)
+three-stored (x ∷ []) a b c h = absurd (omega arith)
+three-stored (x ∷ (y ∷ [])) a b c h = absurd (omega arith)
+three-stored (x ∷ (y ∷ (z ∷ []))) a b c h = refl
+three-stored (x ∷ (y ∷ (z ∷ (w ∷ l)))) a b c h = absurd (omega arith)
+
 -- ---- two lists joined place by place
 pub length-zipWith : (f : ℕ → ℕ → ℕ) (xs ys : List ℕ) → length xs ≡ length ys → length (zipWith f xs ys) ≡ length xs
 unfolding zipWith

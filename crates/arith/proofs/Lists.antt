@@ -2,10 +2,11 @@
 use mathlib.Core.Path.{_≡_, refl, sym, ap, ap₂, _∙_, subst}
 use mathlib.Core.Bool.{Bool, true, false, cond}
 use mathlib.Core.Logic.{_⊎_, inl, inr}
-use mathlib.Core.List.{List, [], _∷_, _++_, map, flatMap}
-use mathlib.Core.Option.{some}
-use Prim.Native.Nat.{ℕ, zero, suc, _+_, _≤_, _<_}
+use mathlib.Core.List.{List, [], _∷_, _++_, map, flatMap, append-assoc}
+use mathlib.Core.Option.{none, some, Option·none-ne-some}
+use Prim.Native.Nat.{ℕ, zero, suc, _+_, _-_, _≤_, _<_}
 use native.Mathlib.Nat.{eq-or-lt-of-le}
+use native.Mathlib.Numerals.{add-one}
 use native.Mathlib.Omega.{arith}
 use lib.ListN.{getD, length}
 use Rattle.arith.specs.Lists.{countUp, In, keep, firstThat}
@@ -72,6 +73,12 @@ flat-in f y (x ∷ xs) h = go (in-split y (f x) (flatMap f xs) h) (λ i. flat-in
     go (inl i) rest = record { of = x; within = inl refl; at = i }
     go (inr i) rest = let s = rest i in record { of = s .of; within = inr (s .within); at = s .at }
 
+-- of two lists, one after the other
+pub flat-append : {A B : Type 0} (f : A → List B) (xs ys : List A) → flatMap f (xs ++ ys) ≡ flatMap f xs ++ flatMap f ys
+unfolding flatMap
+flat-append f [] ys = refl
+flat-append {A} {B} f (x ∷ xs) ys = ap (λ (l : List B). f x ++ l) (flat-append f xs ys) ∙ sym (append-assoc (f x) (flatMap f xs) (flatMap f ys))
+
 -- ---- counting up
 pub in-count : (i n x : ℕ) → i ≤ x → x < i + n → In x (countUp i n)
 unfolding countUp
@@ -103,7 +110,27 @@ count-add i (suc m) n =
     let f : suc i + m ≡ i + suc m = omega arith in
     ap (λ (k : ℕ). countUp i k) e ∙ ap (λ (l : List ℕ). i ∷ l) (count-add (suc i) m n ∙ ap (λ (k : ℕ). countUp (suc i) m ++ countUp k n) f)
 
+-- from i up to n
+pub count-step : (i n : ℕ) → i < n → countUp i (n - i) ≡ i ∷ countUp (i + 1) (n - (i + 1))
+unfolding countUp
+count-step i n h =
+    let e : n - i ≡ suc (n - (i + 1)) = omega arith in
+    ap (countUp i) e ∙ ap (λ (k : ℕ). i ∷ countUp k (n - (i + 1))) (sym (add-one i))
+
+pub count-end : (i n : ℕ) → n ≤ i → countUp i (n - i) ≡ []
+unfolding countUp
+count-end i n h = let e : n - i ≡ 0 = omega arith in ap (countUp i) e
+
+pub count-start : (n : ℕ) → countUp 0 (n - 0) ≡ countUp 0 n
+count-start n = let e : n - 0 ≡ n = omega arith in ap (countUp 0) e
+
 -- ---- places
+-- an element of a mapped list
+pub getD-map : {A B : Type 0} (f : A → B) (l : List A) (k : ℕ) (d : A) (e : B) → k < length l → getD (map f l) k e ≡ f (getD l k d)
+getD-map f [] k d e h = absurd (omega arith)
+getD-map f (a ∷ l) zero d e h = refl
+getD-map f (a ∷ l) (suc k) d e h = getD-map f l k d e (omega arith)
+
 pub in-at : {A : Type 0} (d : A) (xs : List A) (i : ℕ) → i < length xs → In (getD xs i d) xs
 in-at d [] i h = absurd (omega arith)
 in-at d (x ∷ xs) zero h = inl refl
@@ -148,3 +175,44 @@ module _ {A : Type 0} (test : A → Bool) where
   unfolding keep
   keep-same other [] h = refl
   keep-same other (x ∷ l) h = ap₂ (λ (b : Bool) (m : List A). cond b (x ∷ m) m) (h x) (keep-same other l h)
+
+  -- none is the first exactly if none passes
+  pub first-none : (l : List A) → ((x : A) → In x l → test x ≡ false) → firstThat test l ≡ none
+  unfolding firstThat
+  first-none [] h = refl
+  first-none (y ∷ l) h = first-no test y l (h y (inl refl)) ∙ first-none l (λ x i. h x (inr i))
+
+  pub none-passes : (l : List A) → firstThat test l ≡ none → (x : A) → In x l → test x ≡ false
+  none-passes [] e x h = absurd h
+  none-passes (y ∷ l) e x h = go (bool-cases (test y)) h (λ f i. none-passes l f x i)
+    where
+      go : (test y ≡ true) ⊎ (test y ≡ false) → In x (y ∷ l) → (firstThat test l ≡ none → In x l → test x ≡ false) → test x ≡ false
+      go (inl p) i rest = absurd (Option·none-ne-some y (sym e ∙ first-yes test y l p))
+      go (inr p) (inl q) rest = ap test q ∙ p
+      go (inr p) (inr i) rest = rest (sym (first-no test y l p) ∙ e) i
+
+-- the first that passes, counting up to n
+module _ (test : ℕ → Bool) (n : ℕ) where
+  pub up-start : firstThat test (countUp 0 (n - 0)) ≡ firstThat test (countUp 0 n)
+  up-start = ap (firstThat test) (count-start n)
+
+  pub up-hit : (i : ℕ) → i < n → test i ≡ true → firstThat test (countUp i (n - i)) ≡ some i
+  up-hit i h e = ap (firstThat test) (count-step i n h) ∙ first-yes test i (countUp (i + 1) (n - (i + 1))) e
+
+  pub up-miss : (i : ℕ) → i < n → test i ≡ false → firstThat test (countUp (i + 1) (n - (i + 1))) ≡ firstThat test (countUp i (n - i))
+  up-miss i h e = sym (ap (firstThat test) (count-step i n h) ∙ first-no test i (countUp (i + 1) (n - (i + 1))) e)
+
+  pub up-end : (i : ℕ) → n ≤ i → firstThat test (countUp i (n - i)) ≡ none
+  unfolding firstThat
+  up-end i h = ap (firstThat test) (count-end i n h)
+
+  -- from a on, where none before it passes
+  pub up-from : (a : ℕ) → a ≤ n → ((b : ℕ) → b < a → test b ≡ false) → firstThat test (countUp a (n - a)) ≡ firstThat test (countUp 0 n)
+  up-from zero h none-before = up-start
+  up-from (suc a) h none-before =
+      ap (λ (i : ℕ). firstThat test (countUp i (n - i))) (sym (add-one a))
+      ∙ up-miss a (omega arith) (none-before a (omega arith))
+      ∙ up-from a (omega arith) (λ b l. none-before b (omega arith))
+
+  pub up-none : none ≡ firstThat test (countUp 0 n) → (b : ℕ) → b < n → test b ≡ false
+  up-none e b h = none-passes test (countUp 0 n) (sym e) b (in-count 0 n b (omega arith) (omega arith))

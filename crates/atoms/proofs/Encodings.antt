@@ -8,13 +8,13 @@ use lib.ListN.{length, getD, set, take, drop, length-append, length-map, length-
 use lib.Seq.{take-suc, take-length}
 use Rattle.arith.specs.Parts.{partAt, putPart, encode, spread}
 use Rattle.arith.proofs.Parts.{getD-part, encode-part, encode-set, encode-add}
+use Rattle.arith.proofs.Lists.{getD-map}
 use Rattle.expr.specs.declared.Token.{Token}
 use Rattle.expr.specs.declared.Token.the-variants.{Bad}
 use Rattle.expr.specs.Formula.{tokenOf, opcodeOf, operandOf, tokenAt, tokens}
 use Rattle.expr.proofs.Tokens.{token-in, token-back}
 use Rattle.atoms.specs.Bank.{Atom, noAtom}
 use Rattle.atoms.specs.Encoding.{padTo, lengthPart, opsPart, operandsPart, costNumbers, costPart, rowPart, Arrays, written}
-use Rattle.atoms.proofs.Lists.{getD-map}
 
 -- ---- padding
 -- a padded list has the length asked for, whatever the list

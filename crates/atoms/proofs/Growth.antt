@@ -18,7 +18,7 @@ use Rattle.probe.specs.declared.Point.{Point}
 use Rattle.probe.specs.FormulaRow.{rowOf}
 use Rattle.atoms.specs.Bank.{Atom, noAtom, atomOf, push, pushAll, turn, turns, built}
 use Rattle.atoms.specs.Facts.{Holds}
-use Rattle.atoms.proofs.Lists.{getD-map}
+use Rattle.arith.proofs.Lists.{getD-map}
 use Rattle.atoms.proofs.Pushes.{First, push-cases, push-one-more}
 
 -- `later` has a slot for each of the bank's, with its row, and none of them larger

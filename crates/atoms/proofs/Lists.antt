@@ -1,5 +1,4 @@
--- A property of every element of a list, and a mapped list place by place. Assumes nothing.
-use mathlib.Core.Path.{_≡_, refl}
+-- A property of every element of a list. Assumes nothing.
 use mathlib.Core.List.{List, [], _∷_, _++_, map, flatMap}
 use Prim.Native.Nat.{ℕ, zero, suc, _<_}
 use native.Mathlib.Omega.{arith}
@@ -45,9 +44,3 @@ module _ {A B : Type 0} (P : A → Type 0) (Q : B → Type 0) where
   unfolding flatMap
   every-flatMap f h [] e = tt
   every-flatMap f h (a ∷ l) e = every-append Q (f a) (flatMap f l) (h a (e .0)) (every-flatMap f h l (e .1))
-
--- an element of a mapped list
-pub getD-map : {A B : Type 0} (f : A → B) (l : List A) (k : ℕ) (d : A) (e : B) → k < length l → getD (map f l) k e ≡ f (getD l k d)
-getD-map f [] k d e h = absurd (omega arith)
-getD-map f (a ∷ l) zero d e h = refl
-getD-map f (a ∷ l) (suc k) d e h = getD-map f l k d e (omega arith)

@@ -5,12 +5,12 @@ use mathlib.Core.Bool.{Bool, true, false, cond, _||_}
 use mathlib.Core.List.{List}
 use Prim.Native.Nat.{ℕ, _*_, _^_, _≤_, _<_}
 use native.Mathlib.Omega.{arith}
-use borrow.Author.Tests.{lt-ltb}
+use borrow.Author.Tests.{lt-ltb, ltb-false}
 use lib.Dec.{ltb}
 use lib.ListN.{length}
 use Rattle.arith.specs.Refusal.{refuse, unlessRefused, badCount, badWidth, refused, answer, outcome}
 use Rattle.arith.proofs.Remainders.{le-or-lt}
-use Rattle.arith.proofs.Refusals.{true-not-false, within}
+use Rattle.arith.proofs.Refusals.{true-not-false, within, passed, neither}
 use Rattle.probe.specs.declared.Point.{Point}
 use Rattle.atoms.specs.Encoding.{Arrays, written}
 use Rattle.atoms.specs.Stock.{bankOf}
@@ -21,69 +21,41 @@ use Rattle.bank.specs.Build.{sizesOf, tooSmall, pointsReach, bankRefusal
 use Rattle.turns.specs.Phases.{Asked, Phase, Fits}
 
 -- ---- where nothing is refused
--- a condition that does not apply, and the refusals after it come to 0
-record Passed (applies : Bool) (rest : ℕ) : Type 0 where
-  here : applies ≡ false
-  later : rest ≡ 0
-
--- refusals in the table's order that come to 0
-passed : (applies : Bool) (number rest : ℕ) → 0 < number → refuse applies number rest ≡ 0 → Passed applies rest
-passed true number rest h e = absurd (omega arith)
-passed false number rest h e = record { here = refl; later = e }
-
--- two conditions neither of which holds
-record Neither (a b : Bool) : Type 0 where
-  first : a ≡ false
-  second : b ≡ false
-
-neither : (a b : Bool) → (a || b) ≡ false → Neither a b
-neither true b e = absurd (true-not-false e)
-neither false b e = record { first = refl; second = e }
-
--- a length that is not too short
-long-enough : (n need : ℕ) → ltb n need ≡ false → need ≤ n
-long-enough n need e = go (le-or-lt need n)
-  where
-    go : (need ≤ n) ⊎ (n < need) → need ≤ n
-    go (inl h) = h
-    go (inr h) = absurd (true-not-false (sym (lt-ltb n need h) ∙ e))
-
 module _ (nv w : ℕ) (points : List Point) (target : List ℕ) (a : Arrays) (work : List ℕ) (e : bankRefusal nv w points target (sizesOf a work) ≡ 0) where
-  -- the first two conditions
-  count-passed : Passed (badCount nv) (refuse (badWidth w) 2 (refuse (tooSmall (sizesOf a work)) 4 (refuse (pointsReach (2 ^ w) nv points || reaches (2 ^ w) target) 5 0)))
+  count-passed : (badCount nv ≡ false) × (refuse (badWidth w) 2 (refuse (tooSmall (sizesOf a work)) 4 (refuse (pointsReach (2 ^ w) nv points || reaches (2 ^ w) target) 5 0)) ≡ 0)
   count-passed = passed (badCount nv) 1 _ (omega arith) e
 
-  width-passed : Passed (badWidth w) (refuse (tooSmall (sizesOf a work)) 4 (refuse (pointsReach (2 ^ w) nv points || reaches (2 ^ w) target) 5 0))
-  width-passed = passed (badWidth w) 2 _ (omega arith) (count-passed .later)
+  width-passed : (badWidth w ≡ false) × (refuse (tooSmall (sizesOf a work)) 4 (refuse (pointsReach (2 ^ w) nv points || reaches (2 ^ w) target) 5 0) ≡ 0)
+  width-passed = passed (badWidth w) 2 _ (omega arith) (count-passed .1)
 
   -- a count and a width within their ranges
   pub build-asked : Asked nv w
   build-asked = record {
-    least = within 1 6 nv (count-passed .here) .least;
-    most = within 1 6 nv (count-passed .here) .most;
-    width = within 1 64 w (width-passed .here) .most;
+    least = within 1 6 nv (count-passed .0) .least;
+    most = within 1 6 nv (count-passed .0) .most;
+    width = within 1 64 w (width-passed .0) .most;
   }
 
   -- arrays long enough
   pub build-fits : Fits a work
   build-fits =
-      let small : tooSmall (sizesOf a work) ≡ false = passed (tooSmall (sizesOf a work)) 4 _ (omega arith) (width-passed .later) .here in
+      let small : tooSmall (sizesOf a work) ≡ false = passed (tooSmall (sizesOf a work)) 4 _ (omega arith) (width-passed .1) .0 in
       let s1 = neither (ltb (length (a .lengths)) 479) _ small in
-      let s2 = neither (ltb (length (a .ops)) (6 * 479)) _ (s1 .second) in
-      let s3 = neither (ltb (length (a .operands)) (6 * 479)) _ (s2 .second) in
-      let s4 = neither (ltb (length (a .costs)) (3 * 479)) _ (s3 .second) in
-      let s5 = neither (ltb (length (a .rows)) (16 * 479)) _ (s4 .second) in
+      let s2 = neither (ltb (length (a .ops)) (6 * 479)) _ (s1 .1) in
+      let s3 = neither (ltb (length (a .operands)) (6 * 479)) _ (s2 .1) in
+      let s4 = neither (ltb (length (a .costs)) (3 * 479)) _ (s3 .1) in
+      let s5 = neither (ltb (length (a .rows)) (16 * 479)) _ (s4 .1) in
       record {
         room = record {
           texts = record {
-            lengths = long-enough _ _ (s1 .first);
-            ops = long-enough _ _ (s2 .first);
-            operands = long-enough _ _ (s3 .first);
-            costs = long-enough _ _ (s4 .first);
+            lengths = ltb-false _ _ (s1 .0);
+            ops = ltb-false _ _ (s2 .0);
+            operands = ltb-false _ _ (s3 .0);
+            costs = ltb-false _ _ (s4 .0);
           };
-          rows = long-enough _ _ (s5 .first);
+          rows = ltb-false _ _ (s5 .0);
         };
-        area = long-enough _ _ (s5 .second);
+        area = ltb-false _ _ (s5 .1);
       }
 
 -- ---- what is answered

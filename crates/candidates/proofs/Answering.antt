@@ -1,23 +1,21 @@
 -- Laws of the candidates' answer: what is known where nothing is refused, and what each answer says. Assumes nothing.
-use mathlib.Core.Path.{_≡_, refl, sym, ap, _∙_, subst}
-use mathlib.Core.Bool.{Bool, true, false, not, _||_, cond}
+use mathlib.Core.Path.{_≡_, sym, ap, _∙_}
+use mathlib.Core.Bool.{Bool, true, false, _||_, cond}
 use mathlib.Core.List.{List, [], _++_}
 use mathlib.Core.Option.{none, some}
 use Prim.Native.Nat.{ℕ, _/_, _^_, _≤_, _<_}
 use native.Mathlib.Omega.{arith}
-use borrow.Author.Tests.{ltb-false, leb-false}
+use borrow.Author.Tests.{ltb-false, leb-false, not-false}
 use lib.Dec.{leb, ltb}
 use lib.ListN.{length, take, drop}
 use Rattle.arith.specs.Lists.{keep}
 use Rattle.arith.specs.Refusal.{badWidth, refused, answer}
 use Rattle.arith.proofs.Lists.{keep-none, keep-same}
-use Rattle.arith.proofs.Refusals.{true-not-false, within, passed, neither, enough, unless-refused, unless-not}
+use Rattle.arith.proofs.Refusals.{within, passed, neither, enough, unless-refused, unless-not}
 use Rattle.order.specs.Order.{firstWord, orderOf, isOrder}
 use Rattle.order.proofs.OrderLaws.{order-exactly}
 use Rattle.solve.specs.Equation.{used, solves}
-use Rattle.solve.specs.declared.inner.Solution.{Solution}
-use Rattle.solve.specs.declared.inner.Solution.the-variants.{Class, Nothing}
-use Rattle.solve.specs.Solved.{IsClass, IsNone, Solved}
+use Rattle.solve.specs.Solved.{IsClass, IsNone}
 use Rattle.filter.specs.declared.inner.Residue.{Residue}
 use Rattle.filter.specs.Places.{Ordered}
 use Rattle.filter.specs.Refusals.{shortPairs, wrongOrder}
@@ -34,14 +32,6 @@ pub record Passed (w n : ℕ) (rows order : List ℕ) (p t : ℕ) (list : List �
   pub t-below : t < 2 ^ w
   pub ordered : Ordered n rows order
   pub room : n ≤ length list
-
-pub not-false : (b : Bool) → not b ≡ false → b ≡ true
-not-false true e = refl
-not-false false e = absurd (true-not-false e)
-
-pub not-true : (b : Bool) → not b ≡ true → b ≡ false
-not-true true e = absurd (true-not-false (sym e))
-not-true false e = refl
 
 pub none-refused : (w n : ℕ) (rows order : List ℕ) (p t : ℕ) (list : List ℕ) → candidatesRefusal w n rows order p t list ≡ 0 → Passed w n rows order p t list
 none-refused w n rows order p t list e =
@@ -66,15 +56,7 @@ none-refused w n rows order p t list e =
       room = ltb-false _ _ (lists .1);
     }
 
--- ---- what `solve` says
-module _ {w p t : ℕ} {r : Solution} (solved : Solved w p t r) where
-  pub solved-class : {bits first : ℕ} → r ≡ Class bits first → IsClass w p t bits first
-  solved-class e = subst (Solved w p t) e solved
-
-  pub solved-none : r ≡ Nothing → IsNone w p t
-  solved-none e = subst (Solved w p t) e solved
-
--- the class of a solution, as `collect` takes it
+-- ---- the class of the solutions
 abbrev pub classOf : ℕ → ℕ → ℕ → Residue
 classOf w bits first = record { w = w; bits = bits; first = first }
 

@@ -8,6 +8,7 @@ use lib.ListN.{length, getD, replicate, length-map}
 use Rattle.arith.specs.Word.{modulus, notOf, negOf}
 use Rattle.arith.proofs.Remainders.{modulus-is}
 use Rattle.arith.proofs.Fill.{Filled, filled-all}
+use Rattle.arith.proofs.Lists.{getD-map}
 use Rattle.simd.specs.Gates.{gateRow}
 use Rattle.simd.specs.declared.Gate.{Gate}
 use Rattle.expr.specs.declared.Token.{Token}
@@ -23,7 +24,6 @@ use Rattle.probe.specs.FormulaRow.{rowOf}
 use Rattle.probe.proofs.FormulaRows.{length-rowOf, getD-rowOf}
 use Rattle.atoms.specs.Bank.{atomOf}
 use Rattle.atoms.specs.Encoding.{padTo, opsPart, operandsPart}
-use Rattle.atoms.proofs.Lists.{getD-map}
 use Rattle.atoms.proofs.AtomRows.{row-constant, row-neg, row-not, row-gate}
 use Rattle.entry.specs.declared.Formula.{Formula}
 use Rattle.entry.specs.declared.Unary.{Unary}

@@ -5,7 +5,7 @@ use Prim.Native.Nat.{ℕ, _+_, _*_, _/_, _≤_}
 use native.Mathlib.Omega.{arith}
 use borrow.Author.Tests.{ltb-false}
 use lib.Dec.{ltb}
-use Rattle.simd.specs.Limits.{atomsMax, pairsMax}
+use Rattle.simd.specs.Limits.{atomsMax, pairsMax, tooManyAtoms}
 use Rattle.arith.specs.Refusal.{badWidth}
 use Rattle.arith.proofs.Refusals.{within, passed, neither, enough}
 use Rattle.index.specs.Build.{tooShort, refusalOf}
@@ -30,7 +30,7 @@ none-refused w count L rows pairs pairRows order work e =
     let wide = passed (badWidth w) 2 _ (omega arith) e in
     let most = passed (ltb pairsMax L) 3 _ (omega arith) (wide .1) in
     let short = passed (tooShort count L rows pairs pairRows order work) 4 _ (omega arith) (most .1) in
-    let few = passed (ltb atomsMax count) 7 0 (omega arith) (short .1) in
+    let few = passed (tooManyAtoms count) 7 0 (omega arith) (short .1) in
     let one = neither (ltb (rows / 16) count) _ (short .0) in
     let two = neither (ltb (pairs / 3) L) _ (one .1) in
     let three = neither (ltb (pairRows / 16) L) _ (two .1) in

@@ -6,6 +6,7 @@ use native.Mathlib.Omega.{arith}
 use lib.ListN.{length, getD, length-map}
 use lib.Seq.{ext-getD}
 use Rattle.arith.specs.Parts.{spread}
+use Rattle.arith.proofs.Lists.{getD-map}
 use Rattle.probe.specs.declared.Point.{Point}
 use Rattle.trial.specs.declared.inner.Tally.{Tally}
 use Rattle.pairs.specs.Index.{Index, allGates, rowsOf, indexOf}
@@ -16,7 +17,6 @@ use Rattle.pairs.proofs.RowLaws.{length-rowsOf, rows-at}
 use Rattle.atoms.specs.Bank.{Atom, noAtom}
 use Rattle.atoms.specs.Stock.{bankOf}
 use Rattle.atoms.specs.Encoding.{Arrays, written}
-use Rattle.atoms.proofs.Lists.{getD-map}
 use Rattle.atoms.proofs.Encodings.{length-at, row-at}
 use Rattle.atoms.proofs.Banks.{bank-is-sound}
 use Rattle.turns.specs.Phases.{Asked, Phase}

@@ -2,7 +2,7 @@
 use mathlib.Core.Path.{_≡_, refl, sym, ap, ap₂, _∙_, subst}
 use mathlib.Core.Bool.{Bool, true, false}
 use mathlib.Core.Logic.{_⊎_, inl, inr}
-use mathlib.Core.List.{List, [], _∷_, _++_, zipWith}
+use mathlib.Core.List.{List, [], _∷_, _++_}
 use Prim.Native.Nat.{ℕ, suc, _+_, _-_, _≤_, _<_}
 use native.Mathlib.Decide.{decLt}
 use native.Mathlib.Nat.{eq-or-lt-of-le}
@@ -15,8 +15,7 @@ use lib.Seq.{take-append-le, take-all, take-take, getD-at}
 use Rattle.simd.specs.Gates.{gateOf, gateRow, sameRow}
 use Rattle.simd.specs.declared.Gate.{Gate}
 use Rattle.simd.specs.declared.Gate.the-variants.{And, Or, Xor, Add, Mul}
-use Rattle.simd.proofs.GateLaws.{gate-comm}
-use Rattle.simd.proofs.Rows.{same-row-eq, same-row-refl}
+use Rattle.simd.proofs.Rows.{row-comm, row-self, same-row-eq, same-row-refl}
 use Rattle.arith.specs.Lists.{countUp, In}
 use Rattle.pairs.specs.Index.{Trial, Pair, Index, holds, firstC, trialsUpTo, trialsWith, trialsOfGate, trialsOf, trialRow, pairOf, rowsIn, addNew, allPairs, indexOf}
 use Rattle.pairs.specs.Turns.{listed, ended, tryPair, tryAll, noPairs, turnsOf}
@@ -52,19 +51,6 @@ in-slot rs r h = let p = in-place [] r rs h in record { slot = p .i; below = p .
 slot-in : (rs : List (List ℕ)) (r : List ℕ) → Holds rs r → In r rs
 slot-in rs r h = subst (λ (x : List ℕ). In x rs) (h .same) (in-at [] rs (h .slot) (h .below))
 
--- ---- gates on rows
-row-comm : (g : Gate) (w : ℕ) (x y : List ℕ) → gateRow g w x y ≡ gateRow g w y x
-unfolding gateRow zipWith
-row-comm g w [] [] = refl
-row-comm g w [] (b ∷ y) = refl
-row-comm g w (a ∷ x) [] = refl
-row-comm g w (a ∷ x) (b ∷ y) = ap₂ (λ (n : ℕ) (l : List ℕ). n ∷ l) (gate-comm g w a b) (row-comm g w x y)
-
-row-self : (g : Gate) (w : ℕ) → ((a : ℕ) → gateOf g w a a ≡ a) → (x : List ℕ) → gateRow g w x x ≡ x
-unfolding gateRow zipWith
-row-self g w h [] = refl
-row-self g w h (a ∷ x) = ap₂ (λ (n : ℕ) (l : List ℕ). n ∷ l) (h a) (row-self g w h x)
-
 -- ---- the trials: every gate with every two atoms, or the row is an atom's
 in-trials : (gates : List Gate) (n : ℕ) (g : Gate) (b c : ℕ) → In g gates → b < n → firstC g b ≤ c → c < n → In (record { gate = g; b = b; c = c }) (trialsOf gates n)
 unfolding trialsOf trialsOfGate trialsWith trialsUpTo
@@ -81,7 +67,7 @@ from-b Xor b = omega arith
 from-b Add b = omega arith
 from-b Mul b = omega arith
 
-from-c : (g : Gate) (b c : ℕ) → b < c → firstC g b ≤ c
+pub from-c : (g : Gate) (b c : ℕ) → b < c → firstC g b ≤ c
 unfolding firstC
 from-c And b c h = h
 from-c Or b c h = h

@@ -1,9 +1,9 @@
--- Laws of one slot of the arrays: three numbers stored, the arrays by their fields, and what is read back. Assumes nothing.
-use mathlib.Core.Path.{_≡_, refl, sym, ap, _∙_}
-use mathlib.Core.List.{List, [], _∷_}
+-- Laws of one slot of the arrays: the arrays by their fields, and what is read back. Assumes nothing.
+use mathlib.Core.Path.{_≡_, sym, ap, _∙_}
+use mathlib.Core.List.{List}
 use Prim.Native.Nat.{ℕ, _+_, _*_, _<_}
 use native.Mathlib.Omega.{arith}
-use lib.ListN.{length, getD, set}
+use lib.ListN.{length, getD}
 use Rattle.arith.specs.Parts.{partAt}
 use Rattle.arith.proofs.Parts.{getD-part}
 use Rattle.expr_cost.specs.declared.Cost.{Cost}
@@ -13,14 +13,6 @@ use Rattle.atoms.proofs.Encodings.{length-at, ops-at, operands-at, cost-at, row
 use Rattle.entry.specs.declared.Entry.{Entry}
 use Rattle.entry.specs.Entry.{entryOf}
 use Rattle.parts.specs.Parts.{texts, heldCost, Loaded}
-
--- three elements stored one after the other are the whole list of three
-pub three-stored : (l : List ℕ) (a b c : ℕ) → length l ≡ 3 → set (set (set l 0 a) 1 b) 2 c ≡ a ∷ (b ∷ (c ∷ []))
-three-stored [] a b c h = absurd (omega arith)
-three-stored (x ∷ []) a b c h = absurd (omega arith)
-three-stored (x ∷ (y ∷ [])) a b c h = absurd (omega arith)
-three-stored (x ∷ (y ∷ (z ∷ []))) a b c h = refl
-three-stored (x ∷ (y ∷ (z ∷ (w ∷ l)))) a b c h = absurd (omega arith)
 
 -- ---- the arrays by their fields
 -- four equal arrays are equal together

@@ -8,7 +8,7 @@ use native.Mathlib.Numerals.{add-one}
 use native.Mathlib.Omega.{arith}
 use lib.ListN.{length, getD, take, drop}
 use Rattle.arith.specs.Lists.{countUp}
-use Rattle.arith.proofs.Lists.{count-add}
+use Rattle.arith.proofs.Lists.{count-add, flat-append}
 use Rattle.arith.specs.Parts.{partAt, spread}
 use Rattle.arith.proofs.Parts.{getD-part, encode-part}
 use Rattle.simd.specs.declared.Gate.the-variants.{And}
@@ -25,12 +25,6 @@ use Rattle.print.specs.Printing.{Wrote, linesText, numbersLine, numbersA
 use Rattle.print.proofs.Decimals.{then, nothing, reads}
 
 -- ---- lines
--- the lines of two lists one after the other
-flat-append : {A : Type 0} (f : A → List ℕ) (xs ys : List A) → flatMap f (xs ++ ys) ≡ flatMap f xs ++ flatMap f ys
-unfolding flatMap
-flat-append f [] ys = refl
-flat-append f (x ∷ xs) ys = ap (λ (l : List ℕ). f x ++ l) (flat-append f xs ys) ∙ sym (append-assoc (f x) (flatMap f xs) (flatMap f ys))
-
 -- one line more
 pub lines-more : (line : ℕ → List ℕ) (k : ℕ) → linesText line k ++ line k ≡ linesText line (k + 1)
 unfolding linesText flatMap countUp

@@ -1,7 +1,7 @@
 -- Laws of the slots that are tried with one atom: those that fit solve the equation of the first words, so others may be skipped. Assumes nothing.
-use mathlib.Core.Path.{_≡_, refl, sym, ap, ap₂, _∙_, subst}
+use mathlib.Core.Path.{_≡_, sym, ap, ap₂, _∙_, subst}
 use mathlib.Core.Bool.{Bool, true, false}
-use mathlib.Core.List.{List, [], _∷_}
+use mathlib.Core.List.{List}
 use mathlib.Core.Option.{none}
 use Prim.Native.Nat.{ℕ, _+_, _*_, _%_, _^_, _≤_, _<_}
 use native.Mathlib.Nat.{mod-lt, mod-eq-of-lt}
@@ -11,15 +11,13 @@ use lib.ListN.{getD, take, drop}
 use lib.Pow.{pow-pos}
 use Rattle.arith.specs.Lists.{countUp, firstThat}
 use Rattle.arith.specs.Word.{modulus}
-use Rattle.arith.proofs.Lists.{is-false, first-no}
+use Rattle.arith.proofs.Lists.{is-false, first-none}
 use Rattle.arith.proofs.Refusals.{true-not-false}
 use Rattle.arith.proofs.Remainders.{modulus-is, mod-mul-mod}
 use Rattle.order.specs.Order.{firstWord, orderOf}
 use Rattle.order.proofs.OrderLaws.{order-exactly}
 use Rattle.solve.specs.Equation.{used, solves}
-use Rattle.solve.specs.Solved.{Asked, Solved, IsClass, IsNone}
-use Rattle.solve.specs.declared.inner.Solution.{Solution}
-use Rattle.solve.specs.declared.inner.Solution.the-variants.{Class, Nothing}
+use Rattle.solve.specs.Solved.{Asked, IsClass, IsNone}
 use Rattle.filter.specs.declared.inner.Residue.{Residue}
 use Rattle.filter.specs.declared.inner.Sweep.{Sweep}
 use Rattle.filter.specs.Places.{Ordered, Skips}
@@ -28,12 +26,6 @@ use Rattle.filter.proofs.PlaceLaws.{skips-join, skips-narrow, first-skips}
 use Rattle.product.specs.Trying.{slotsFor}
 use Rattle.product.specs.Steps.{fitsAt, Target, Narrows}
 use Rattle.product.proofs.Trials.{fits-lane}
-
--- where nothing passes, there is no first
-none-pass : (test : ℕ → Bool) → ((s : ℕ) → test s ≡ false) → (l : List ℕ) → firstThat test l ≡ none
-unfolding firstThat
-none-pass test h [] = refl
-none-pass test h (s ∷ l) = first-no test s l (h s) ∙ none-pass test h l
 
 first-place-is : (s : ℕ) → 16 * s + 0 ≡ 16 * s
 first-place-is s = omega arith
@@ -49,13 +41,6 @@ module _ (w : ℕ) (target xs ys : List ℕ) (a b : ℕ) (ok : Target w target) 
   first-not x y p ex ey e n =
       is-false (fitsAt w target xs a ys b)
       (λ f. n (e ∙ ap₂ (λ (x y : ℕ). (x * y) % modulus w) ex ey ∙ ap (λ (m : ℕ). (firstWord xs a * firstWord ys b) % m) (modulus-is w (ok .width)) ∙ first-product f))
-
--- ---- what a solution says
-pub solved-class : (w p t : ℕ) (r : Solution) (bits first : ℕ) → r ≡ Class bits first → Solved w p t r → IsClass w p t bits first
-solved-class w p t r bits first e s = subst (Solved w p t) e s
-
-pub solved-none : (w p t : ℕ) (r : Solution) → r ≡ Nothing → Solved w p t r → IsNone w p t
-solved-none w p t r e s = subst (Solved w p t) e s
 
 -- ---- p is the first word of atom a, reduced
 module _ (w : ℕ) (target atoms listed : List ℕ) (a : ℕ) (ok : Target w target) (p : ℕ) (is : p ≡ firstWord atoms a % modulus w) where
@@ -97,8 +82,8 @@ module _ (w : ℕ) (target atoms listed : List ℕ) (a : ℕ) (ok : Target w tar
 
   pub none-fits : IsNone w p (getD target 0 0) → (l : List ℕ) → firstThat (fitsAt w target atoms a listed) l ≡ none
   none-fits no′ l =
-      none-pass (fitsAt w target atoms a listed)
-      (λ s. is-false (fitsAt w target atoms a listed s) (λ e. true-not-false (sym (fit-solves s e) ∙ no′ .is (firstWord listed s)))) l
+      first-none (fitsAt w target atoms a listed) l
+      (λ s _. is-false (fitsAt w target atoms a listed s) (λ e. true-not-false (sym (fit-solves s e) ∙ no′ .is (firstWord listed s))))
 
   module _ (bits first : ℕ) (class : IsClass w p (getD target 0 0) bits first) where
     pub narrows : Narrows w target atoms a listed record { w = w; bits = bits; first = first }

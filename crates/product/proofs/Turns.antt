@@ -1,15 +1,13 @@
--- Laws of the first that passes a test, over numbers counted up and over trials, one atom's after the other's. Assumes nothing.
+-- Laws of the first that passes a test, over trials, one atom's after the other's. Assumes nothing.
 use mathlib.Core.Path.{_≡_, refl, sym, ap, _∙_}
-use mathlib.Core.Bool.{Bool, true, false}
+use mathlib.Core.Bool.{Bool}
 use mathlib.Core.List.{List, [], _∷_, _++_, map, flatMap}
-use mathlib.Core.Logic.{_⊎_, inl, inr}
-use mathlib.Core.Option.{Option, none, some, Option·map, Option·none-ne-some, orElse}
-use Prim.Native.Nat.{ℕ, zero, suc, _+_, _-_, _≤_, _<_}
-use native.Mathlib.Numerals.{add-one}
-use native.Mathlib.Omega.{arith}
+use mathlib.Core.Logic.{inl, inr}
+use mathlib.Core.Option.{Option, none, some, Option·map, orElse}
+use Prim.Native.Nat.{ℕ, _+_, _-_, _≤_, _<_}
 use lib.ListN.{getD}
-use Rattle.arith.specs.Lists.{countUp, In, firstThat}
-use Rattle.arith.proofs.Lists.{bool-cases, in-count, first-yes, first-no}
+use Rattle.arith.specs.Lists.{countUp, firstThat}
+use Rattle.arith.proofs.Lists.{bool-cases, count-step, count-end, count-start, first-yes, first-no}
 use Rattle.order.specs.Order.{firstWord}
 use Rattle.product.specs.Trying.{Product, fitting, slotsFor, withAtoms, withPairs, tryEverything}
 use Rattle.product.specs.Steps.{fitsAt}
@@ -33,56 +31,6 @@ first-map test f g same (x ∷ l) = elim (bool-cases (f x)) [
   | inl y ↦ first-yes test (g x) (map g l) (same x ∙ y) ∙ ap (Option·map g) (sym (first-yes f x l y))
   | inr n ↦ first-no test (g x) (map g l) (same x ∙ n) ∙ first-map test f g same l ∙ ap (Option·map g) (sym (first-no f x l n))
 ]
-
--- where there is none, none passes
-module _ {A : Type 0} (test : A → Bool) where
-  pub none-passes : (l : List A) → firstThat test l ≡ none → (x : A) → In x l → test x ≡ false
-  none-passes [] e x h = absurd h
-  none-passes (y ∷ l) e x h = go (bool-cases (test y)) h (λ f i. none-passes l f x i)
-    where
-      go : (test y ≡ true) ⊎ (test y ≡ false) → In x (y ∷ l) → (firstThat test l ≡ none → In x l → test x ≡ false) → test x ≡ false
-      go (inl p) i rest = absurd (Option·none-ne-some y (sym e ∙ first-yes test y l p))
-      go (inr p) (inl q) rest = ap test q ∙ p
-      go (inr p) (inr i) rest = rest (sym (first-no test y l p) ∙ e) i
-
--- ---- from i up to n
-count-step : (i n : ℕ) → i < n → countUp i (n - i) ≡ i ∷ countUp (i + 1) (n - (i + 1))
-unfolding countUp
-count-step i n h =
-    let e : n - i ≡ suc (n - (i + 1)) = omega arith in
-    ap (countUp i) e ∙ ap (λ (k : ℕ). i ∷ countUp k (n - (i + 1))) (sym (add-one i))
-
-count-end : (i n : ℕ) → n ≤ i → countUp i (n - i) ≡ []
-unfolding countUp
-count-end i n h = let e : n - i ≡ 0 = omega arith in ap (countUp i) e
-
-count-start : (n : ℕ) → countUp 0 (n - 0) ≡ countUp 0 n
-count-start n = let e : n - 0 ≡ n = omega arith in ap (countUp 0) e
-
-module _ (test : ℕ → Bool) (n : ℕ) where
-  pub up-start : firstThat test (countUp 0 (n - 0)) ≡ firstThat test (countUp 0 n)
-  up-start = ap (firstThat test) (count-start n)
-
-  pub up-hit : (i : ℕ) → i < n → test i ≡ true → firstThat test (countUp i (n - i)) ≡ some i
-  up-hit i h e = ap (firstThat test) (count-step i n h) ∙ first-yes test i (countUp (i + 1) (n - (i + 1))) e
-
-  pub up-miss : (i : ℕ) → i < n → test i ≡ false → firstThat test (countUp (i + 1) (n - (i + 1))) ≡ firstThat test (countUp i (n - i))
-  up-miss i h e = sym (ap (firstThat test) (count-step i n h) ∙ first-no test i (countUp (i + 1) (n - (i + 1))) e)
-
-  pub up-end : (i : ℕ) → n ≤ i → firstThat test (countUp i (n - i)) ≡ none
-  unfolding firstThat
-  up-end i h = ap (firstThat test) (count-end i n h)
-
-  -- from a on, where none before it passes
-  pub up-from : (a : ℕ) → a ≤ n → ((b : ℕ) → b < a → test b ≡ false) → firstThat test (countUp a (n - a)) ≡ firstThat test (countUp 0 n)
-  up-from zero h none-before = up-start
-  up-from (suc a) h none-before =
-      ap (λ (i : ℕ). firstThat test (countUp i (n - i))) (sym (add-one a))
-      ∙ up-miss a (omega arith) (none-before a (omega arith))
-      ∙ up-from a (omega arith) (λ b l. none-before b (omega arith))
-
-  pub up-none : none ≡ firstThat test (countUp 0 n) → (b : ℕ) → b < n → test b ≡ false
-  up-none e b h = none-passes test (countUp 0 n) (sym e) b (in-count 0 n b (omega arith) (omega arith))
 
 -- ---- trials: each a with the slots of l a
 abbrev pub trials : (ℕ → ℕ → Product) → (ℕ → List ℕ) → ℕ → ℕ → List Product

@@ -14,7 +14,7 @@ use lib.Seq.{take-at, drop-append-add}
 use Rattle.arith.specs.Lists.{In}
 use Rattle.arith.specs.Parts.{partAt, encode}
 use Rattle.arith.specs.Refusal.{Outcome, refused, answer, outcome}
-use Rattle.arith.proofs.Lists.{false-true}
+use Rattle.arith.proofs.Lists.{false-true, getD-map}
 use Rattle.arith.proofs.Parts.{length-part}
 use Rattle.arith.proofs.Refusals.{unless-not}
 use Rattle.simd.specs.Gates.{gateRow}
@@ -28,7 +28,6 @@ use Rattle.order.proofs.OrderLaws.{order-length}
 use Rattle.pairs.proofs.IndexLaws.{index-is-sound, uncut-loses-none, rows-length}
 use Rattle.pairs.proofs.RowLaws.{length-rowsOf, rows-at, gate-long}
 use Rattle.index.proofs.Passing.{none-refused}
-use Rattle.atoms.proofs.Lists.{getD-map}
 use Rattle.search.specs.Demand.{OwnIndex, Uncut}
 use Rattle.search.specs.Own.{BuiltIsOwn}
 

@@ -2,32 +2,23 @@
 use mathlib.Core.Path.{_≡_, refl, sym, ap, _∙_, subst}
 use mathlib.Core.Bool.{Bool, true, false, cond}
 use mathlib.Core.Logic.{inl, inr}
-use mathlib.Core.List.{List, [], _∷_, _++_, map}
+use mathlib.Core.List.{List, _++_, map}
 use mathlib.Core.Option.{none}
 use Prim.Native.Nat.{ℕ, _+_, _*_, _%_, _^_, _<_}
 use native.Mathlib.Omega.{arith}
 use lib.ListN.{length, getD, length-map}
 use lib.Seq.{ext-getD}
-use Rattle.arith.specs.Lists.{countUp, In, firstThat}
+use Rattle.arith.specs.Lists.{countUp, In}
 use Rattle.arith.specs.Parts.{partAt}
-use Rattle.arith.proofs.Lists.{in-left, in-right, in-split, in-map, map-in, in-flat, flat-in, in-count, count-in, in-at, in-place, first-no}
+use Rattle.arith.proofs.Lists.{in-left, in-right, in-split, in-map, map-in, in-flat, flat-in, in-count, count-in, getD-map, in-at, in-place, first-none, none-passes}
 use Rattle.simd.specs.Gates.{gateOf, gateRow}
 use Rattle.simd.specs.declared.Gate.the-variants.{Mul}
 use Rattle.simd.proofs.Rows.{length-gateRow, getD-gateRow, same-row-eq, same-row-of}
 use Rattle.order.specs.Order.{firstWord, orderOf}
 use Rattle.order.proofs.OrderLaws.{order-length, order-exactly, order-below, order-once}
 use Rattle.solve.specs.Equation.{used}
-use Rattle.atoms.proofs.Lists.{getD-map}
 use Rattle.product.specs.Trying.{Product, fits, fitting, slotsFor, withAtoms, withPairs, tryEverything}
-use Rattle.product.proofs.Turns.{none-passes}
 use Rattle.search.specs.Demand.{Equal}
-
--- ---- the first of a list that passes: there is none if none does
-module _ {A : Type 0} (test : A → Bool) where
-  pub passes-none : (l : List A) → ((x : A) → In x l → test x ≡ false) → firstThat test l ≡ none
-  unfolding firstThat
-  passes-none [] h = refl
-  passes-none (y ∷ l) h = first-no test y l (h y (inl refl)) ∙ passes-none l (λ x i. h x (inr i))
 
 -- ---- a trial fits exactly if the products are equal to the target in all sixteen places
 module _ (w : ℕ) (target a b : List ℕ) (long : length target ≡ 16) (long-a : length a ≡ 16) (long-b : length b ≡ 16) where
@@ -142,7 +133,7 @@ module _ (w count : ℕ) (atoms : List ℕ) (n : ℕ) (listed target : List ℕ)
 
   pub fits-nothing : NoneFits → tryEverything w count atoms n listed target ≡ none
   unfolding tryEverything fitting
-  fits-nothing h = passes-none (fitting w atoms listed target) all (λ x i. go x (tried x i))
+  fits-nothing h = first-none (fitting w atoms listed target) all (λ x i. go x (tried x i))
     where
       go : (x : Product) → Tried x → fitting w atoms listed target x ≡ false
       go x (two _ a b e ha hb) = ap (fitting w atoms listed target) e ∙ h .two a b ha hb

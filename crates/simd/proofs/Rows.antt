@@ -1,7 +1,7 @@
 -- Laws of rows: a gate place by place, and the test of equality. Assumes nothing.
 use mathlib.Core.Path.{_≡_, refl, sym, ap, ap₂, _∙_}
 use mathlib.Core.Bool.{Bool, true, false, cond}
-use mathlib.Core.List.{List, [], _∷_}
+use mathlib.Core.List.{List, [], _∷_, zipWith}
 use Prim.Native.Nat.{ℕ, _<_}
 use native.Mathlib.Decide.{ℕ-discrete}
 use borrow.Author.Tests.{eq-eqb, ne-eqb}
@@ -10,6 +10,7 @@ use Rattle.arith.proofs.Fill.{length-zipWith, getD-zipWith}
 use Rattle.arith.proofs.Refusals.{true-not-false}
 use Rattle.simd.specs.Gates.{gateOf, gateRow, sameRow}
 use Rattle.simd.specs.declared.Gate.{Gate}
+use Rattle.simd.proofs.GateLaws.{gate-comm}
 
 pub length-gateRow : (g : Gate) (w : ℕ) (a b : List ℕ) → length a ≡ length b → length (gateRow g w a b) ≡ length a
 unfolding gateRow
@@ -18,6 +19,20 @@ length-gateRow g w a b e = length-zipWith (gateOf g w) a b e
 pub getD-gateRow : (g : Gate) (w : ℕ) (a b : List ℕ) (k : ℕ) → k < length a → k < length b → getD (gateRow g w a b) k 0 ≡ gateOf g w (getD a k 0) (getD b k 0)
 unfolding gateRow
 getD-gateRow g w a b k h l = getD-zipWith (gateOf g w) a b k h l
+
+-- a gate on rows commutes, as it does on words
+pub row-comm : (g : Gate) (w : ℕ) (x y : List ℕ) → gateRow g w x y ≡ gateRow g w y x
+unfolding gateRow zipWith
+row-comm g w [] [] = refl
+row-comm g w [] (b ∷ y) = refl
+row-comm g w (a ∷ x) [] = refl
+row-comm g w (a ∷ x) (b ∷ y) = ap₂ (λ (n : ℕ) (l : List ℕ). n ∷ l) (gate-comm g w a b) (row-comm g w x y)
+
+-- a row with itself, where the gate leaves every word as it is
+pub row-self : (g : Gate) (w : ℕ) → ((a : ℕ) → gateOf g w a a ≡ a) → (x : List ℕ) → gateRow g w x x ≡ x
+unfolding gateRow zipWith
+row-self g w h [] = refl
+row-self g w h (a ∷ x) = ap₂ (λ (n : ℕ) (l : List ℕ). n ∷ l) (h a) (row-self g w h x)
 
 -- ---- the test of equality is exact
 pub same-row-refl : (xs : List ℕ) → sameRow xs xs ≡ true

@@ -13,6 +13,9 @@ use Rattle.arith.specs.Cong.{Cong}
 use Rattle.arith.proofs.Congruence.{cong-trans, cong-eq, cong-multiple, cong-less, cong-scale, cong-unscale}
 use Rattle.arith.proofs.Newton.{times-inverse, of-inverse, odd-has-inverse}
 use Rattle.solve.specs.Equation.{zerosOf, used, solves}
+use Rattle.solve.specs.declared.inner.Solution.{Solution}
+use Rattle.solve.specs.declared.inner.Solution.the-variants.{Class, Nothing}
+use Rattle.solve.specs.Solved.{IsClass, IsNone, Solved}
 use Rattle.solve.specs.Facts.{SolutionsExactly, NoSolution}
 use Rattle.solve.proofs.Zeros.{OddPart, trailing-zeros-odd, shifted, zeros-lt}
 use Rattle.solve.proofs.Used.{used-zero}
@@ -118,3 +121,11 @@ solutions-exactly w p t wide pos small divides =
 
 pub no-solution : NoSolution
 no-solution w p t wide pos small more f = none w p t (zerosOf p) wide pos small refl (λ e. omega arith) f
+
+-- ---- what an answer of `solve` says
+module _ {w p t : ℕ} {r : Solution} (solved : Solved w p t r) where
+  pub solved-class : {bits first : ℕ} → r ≡ Class bits first → IsClass w p t bits first
+  solved-class e = subst (Solved w p t) e solved
+
+  pub solved-none : r ≡ Nothing → IsNone w p t
+  solved-none e = subst (Solved w p t) e solved

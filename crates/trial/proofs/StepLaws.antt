@@ -4,7 +4,7 @@ use mathlib.Core.Bool.{Bool, true, false}
 use mathlib.Core.List.{List, [], _∷_, _++_}
 use Prim.Native.Nat.{ℕ, _+_, _*_, _≤_, _<_}
 use native.Mathlib.Omega.{arith}
-use lib.ListN.{length, set, take, drop, length-append, length-drop}
+use lib.ListN.{length, take, drop, length-append, length-drop}
 use lib.Seq.{drop-drop, length-take-le}
 use Rattle.arith.specs.Parts.{putPart}
 use Rattle.arith.proofs.Parts.{encode-add, drop-put, length-put}
@@ -152,11 +152,3 @@ module _ (job : Job) (rows work pairs pairRows : List ℕ) (n : ℕ) (ready : Re
         bank-map = subst (λ (z : List ℕ). Held z rows bankBits (job .count)) (sym (step .bank)) (ready .bank-map);
         pair-map = held-put-insert row fits long e (able .home-is) (step .map) (ready .pair-map);
       }
-
--- ---- three words of a pair
-pub three : (l : List ℕ) (x y z : ℕ) → length l ≡ 3 → set (set (set l 0 x) 1 y) 2 z ≡ x ∷ (y ∷ (z ∷ []))
-three [] x y z h = absurd (omega arith)
-three (a ∷ []) x y z h = absurd (omega arith)
-three (a ∷ (b ∷ [])) x y z h = absurd (omega arith)
-three (a ∷ (b ∷ (c ∷ []))) x y z h = refl
-three (a ∷ (b ∷ (c ∷ (d ∷ l)))) x y z h = absurd (omega arith)

@@ -13,15 +13,17 @@ use Rattle.pairs.proofs.IndexLaws.{stays-cut, try-append}
 use Rattle.trial.proofs.StepLaws.{tallied}
 
 -- ---- trials one after the other
+-- the trials by another name
+pub renamed : {job : Job} {rows pairs₀ pairRows₀ : List ℕ} {n : ℕ} {work₁ pairs₁ rows₁ : List ℕ} {r : Tally} {ts us : List Trial} → ts ≡ us
+    → Ran job rows pairs₀ pairRows₀ n work₁ pairs₁ rows₁ r ts → Ran job rows pairs₀ pairRows₀ n work₁ pairs₁ rows₁ r us
+renamed {job} {rows} {pairs₀} {pairRows₀} {n} {work₁} {pairs₁} {rows₁} {r} e ran = subst (Ran job rows pairs₀ pairRows₀ n work₁ pairs₁ rows₁ r) e ran
+
 module _ (job : Job) (rows pairs pairRows : List ℕ) (n : ℕ) where
   pub ran-none : (work : List ℕ) → Ready job rows work pairs pairRows n → Ran job rows pairs pairRows n work pairs pairRows (tallied n false) []
   unfolding tryAll
   ran-none work ready = record { ready = ready; index = λ _ _ _ is. is }
 
   module _ (work′ pairs′ pairRows′ : List ℕ) (r : Tally) (ts us : List Trial) where
-    pub ran-eq : ts ≡ us → Ran job rows pairs pairRows n work′ pairs′ pairRows′ r ts → Ran job rows pairs pairRows n work′ pairs′ pairRows′ r us
-    ran-eq e ran = subst (Ran job rows pairs pairRows n work′ pairs′ pairRows′ r) e ran
-
     -- a cut index stays as it is, whatever is left
     pub ran-ended : r .cut ≡ true → Ran job rows pairs pairRows n work′ pairs′ pairRows′ r ts → Ran job rows pairs pairRows n work′ pairs′ pairRows′ r (ts ++ us)
     ran-ended cut ran = record {
@@ -62,19 +64,14 @@ module _ {job : Job} {rows pairs₀ pairRows₀ : List ℕ} {n : ℕ} {work₁ p
   -- a step that was not cut, and one that was: what is left doesn't matter
   pub step-on : (ts us : List Trial) {next : List Trial} → Ran job rows pairs₀ pairRows₀ n work₁ pairs₁ rows₁ (tallied m false) ts → Ran job rows pairs₁ rows₁ m work₂ pairs₂ rows₂ r us
       → r .cut ≡ false → ts ++ us ≡ next → Ran job rows pairs₀ pairRows₀ n work₂ pairs₂ rows₂ (tallied (r .pairs) false) next
-  step-on ts us {next} first then whole e =
-      ran-eq job rows pairs₀ pairRows₀ n work₂ pairs₂ rows₂ (tallied (r .pairs) false) (ts ++ us) next e
+  step-on ts us first then whole e =
+      renamed e
       (ran-whole job rows pairs₀ pairRows₀ n work₂ pairs₂ rows₂ r (ts ++ us) whole
       (ran-then job rows pairs₀ pairRows₀ n work₁ pairs₁ rows₁ work₂ pairs₂ rows₂ m r ts us first then))
 
   pub step-ended : (ts us more : List Trial) {all : List Trial} → Ran job rows pairs₀ pairRows₀ n work₁ pairs₁ rows₁ (tallied m false) ts
       → Ran job rows pairs₁ rows₁ m work₂ pairs₂ rows₂ r us → r .cut ≡ true → (ts ++ us) ++ more ≡ all → Ran job rows pairs₀ pairRows₀ n work₂ pairs₂ rows₂ r all
-  step-ended ts us more {all} first then cut e =
-      ran-eq job rows pairs₀ pairRows₀ n work₂ pairs₂ rows₂ r ((ts ++ us) ++ more) all e
+  step-ended ts us more first then cut e =
+      renamed e
       (ran-ended job rows pairs₀ pairRows₀ n work₂ pairs₂ rows₂ r (ts ++ us) more cut
       (ran-then job rows pairs₀ pairRows₀ n work₁ pairs₁ rows₁ work₂ pairs₂ rows₂ m r ts us first then))
-
--- the same trials, written otherwise
-pub renamed : {job : Job} {rows pairs₀ pairRows₀ : List ℕ} {n : ℕ} {work₁ pairs₁ rows₁ : List ℕ} {r : Tally} {ts us : List Trial} → ts ≡ us
-    → Ran job rows pairs₀ pairRows₀ n work₁ pairs₁ rows₁ r ts → Ran job rows pairs₀ pairRows₀ n work₁ pairs₁ rows₁ r us
-renamed {job} {rows} {pairs₀} {pairRows₀} {n} {work₁} {pairs₁} {rows₁} {r} e ran = subst (Ran job rows pairs₀ pairRows₀ n work₁ pairs₁ rows₁ r) e ran

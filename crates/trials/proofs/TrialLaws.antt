@@ -1,6 +1,6 @@
 -- Laws of the list of trials, as the three loops pass through it. Assumes nothing.
 use mathlib.Core.Path.{_≡_, refl, sym, ap, _∙_}
-use mathlib.Core.List.{List, [], _∷_, _++_, map, flatMap, append-assoc, append-nil}
+use mathlib.Core.List.{List, [], _∷_, _++_, map, flatMap, map-append, append-nil}
 use Prim.Native.Nat.{ℕ, zero, suc, _+_, _-_, _≤_, _<_}
 use native.Mathlib.Numerals.{add-one}
 use native.Mathlib.Omega.{arith}
@@ -8,20 +8,11 @@ use lib.ListN.{getD, take, drop, take-append-drop}
 use lib.Seq.{take-suc}
 use Rattle.simd.specs.Gates.{gateAt}
 use Rattle.simd.specs.declared.Gate.{Gate}
-use Rattle.simd.specs.declared.Gate.the-variants.{And, Or, Xor, Add, Mul}
+use Rattle.simd.specs.declared.Gate.the-variants.{And}
 use Rattle.arith.specs.Lists.{countUp}
 use Rattle.pairs.specs.Index.{Trial, allGates, firstC, trialsUpTo, trialsWith, trialsOfGate, trialsOf}
 use Rattle.trial.specs.Steps.{trial}
-use Rattle.arith.proofs.Lists.{count-add}
-
-map-append : {A B : Type 0} (f : A → B) (xs ys : List A) → map f (xs ++ ys) ≡ map f xs ++ map f ys
-map-append f [] ys = refl
-map-append {A} {B} f (x ∷ xs) ys = ap (λ (l : List B). f x ∷ l) (map-append f xs ys)
-
-flat-append : {A B : Type 0} (f : A → List B) (xs ys : List A) → flatMap f (xs ++ ys) ≡ flatMap f xs ++ flatMap f ys
-unfolding flatMap
-flat-append f [] ys = refl
-flat-append {A} {B} f (x ∷ xs) ys = ap (λ (l : List B). f x ++ l) (flat-append f xs ys) ∙ sym (append-assoc (f x) (flatMap f xs) (flatMap f ys))
+use Rattle.arith.proofs.Lists.{count-add, flat-append}
 
 -- ---- c ascending
 up-add : (g : Gate) (b k m : ℕ) → trialsUpTo g b (k + m) ≡ trialsUpTo g b k ++ map (λ (c : ℕ). record { gate = g; b = b; c = c }) (countUp (firstC g b + k) m)
@@ -58,15 +49,6 @@ up-rest g b n c h l =
 pub up-all : (g : Gate) (b n c : ℕ) → c ≡ n → trialsUpTo g b (c - firstC g b) ≡ trialsWith n g b
 unfolding trialsWith
 up-all g b n c e = ap (λ (k : ℕ). trialsUpTo g b (k - firstC g b)) e
-
--- no gate begins beyond the last atom
-pub from-b : (g : Gate) (b n : ℕ) → b < n → firstC g b ≤ n
-unfolding firstC
-from-b And b n h = omega arith
-from-b Or b n h = omega arith
-from-b Xor b n h = omega arith
-from-b Add b n h = omega arith
-from-b Mul b n h = omega arith
 
 -- ---- b ascending: the trials of a gate with the first k atoms
 unfoldable pub gateUpTo : ℕ → Gate → ℕ → List Trial

@@ -2,7 +2,9 @@
 use mathlib.Core.Path.{sym, _∙_}
 use native.Mathlib.Omega.{arith}
 use borrow.Author.Needs.{needs}
-use Rattle.candidates.proofs.Answering.{not-false, not-true, none-refused, solved-class, solved-none, class-small, refused-collected, unused-collected, none-collected, class-collected}
+use borrow.Author.Tests.{not-true, not-false}
+use Rattle.solve.proofs.Solutions.{solved-class, solved-none}
+use Rattle.candidates.proofs.Answering.{none-refused, class-small, refused-collected, unused-collected, none-collected, class-collected}
 use Rattle.candidates.proofs.collect_mul_probe0_candidates.Statement.{statement}
 use Rattle.candidates.proofs.collect_mul_probe0_candidates.Tie as tie
 

@@ -1,16 +1,16 @@
 -- `filter::inner::sample` meets its contract: each of the first j samples is the word at its place, a step after the one before. Assumes nothing.
 use mathlib.Core.Path.{_≡_, refl, _∙_}
-use Prim.Native.Nat.{_+_, _-_, _*_, _≤_}
+use Prim.Native.Nat.{_+_, _-_, _*_, _<_}
 use lib.ListN.{length, length-set}
 use borrow.Author.Needs.{needs}
 use native.Mathlib.Omega.{arith}
-use Rattle.filter.specs.Places.{Sampled}
+use Rattle.filter.specs.Places.{sampleStep, Sampled}
 use Rattle.filter.proofs.Words.{sampled-more}
 use Rattle.filter.proofs.inner.sample.Statement.{statement}
 use Rattle.filter.proofs.inner.sample.Tie as tie
 
 abbrev Inv-loop : tie.InvT-loop
-Inv-loop samples₀ rows order n j₀ samples j = (length samples ≡ length samples₀) × (16 * j ≤ n + 15) × Sampled n rows order samples j
+Inv-loop samples₀ rows order n j₀ samples j = (length samples ≡ length samples₀) × (sampleStep * j < n + sampleStep) × Sampled n rows order samples j
 
 abbrev μ-loop : tie.MeasureT-loop
 μ-loop samples₀ rows order n j₀ samples j = n - j

@@ -1,7 +1,7 @@
 -- `parts::inner::write_cost` meets its contract: three stores make the whole part. Assumes nothing.
 use native.Mathlib.Omega.{arith}
 use borrow.Author.Needs.{needs}
-use Rattle.parts.proofs.Storing.{three-stored}
+use Rattle.arith.proofs.Fill.{three-stored}
 use Rattle.parts.proofs.inner.write_cost.Statement.{statement}
 use Rattle.parts.proofs.inner.write_cost.Tie as tie
 

@@ -7,7 +7,7 @@ use Prim.Native.Nat.{_-_, _≤_}
 use Rattle.arith.specs.Lists.{countUp, firstThat}
 use Rattle.product.specs.Steps.{fitsAt}
 use Rattle.product.proofs.Slots.{first-not}
-use Rattle.product.proofs.Turns.{up-from, up-hit, up-miss, up-end}
+use Rattle.arith.proofs.Lists.{up-from, up-hit, up-miss, up-end}
 use borrow.Author.Needs.{needs}
 use native.Mathlib.Omega.{arith}
 use Rattle.product.proofs.inner.first_atom.Statement.{statement}

@@ -3,7 +3,8 @@ use mathlib.Core.Path.{sym, ap, _∙_}
 use lib.ListN.{getD}
 use Rattle.arith.specs.Lists.{firstThat}
 use Rattle.product.specs.Steps.{fitsAt}
-use Rattle.product.proofs.Slots.{solved-class, solved-none, slots-used, slots-unused, asked, none-fits, narrows, small, listed-is}
+use Rattle.solve.proofs.Solutions.{solved-class, solved-none}
+use Rattle.product.proofs.Slots.{slots-used, slots-unused, asked, none-fits, narrows, small, listed-is}
 use native.Mathlib.Omega.{arith}
 use borrow.Author.Needs.{needs}
 use Rattle.product.proofs.inner.first_pair.Statement.{statement}
@@ -49,7 +50,7 @@ first-of-class-requires c κs =
     let a = s .args in
     let t = getD (a .target .now) 0 0 in
     let p = r .reduce .result in
-    let class = solved-class (a .w) p t (sol .solve .result) _ _ (c .before .solution .given .1) (sol .solve .ensures) in (
+    let class = solved-class (sol .solve .ensures) (c .before .solution .given .1) in (
       s .pre .0,
       s .pre .1,
       small (a .w) (a .target .now) (a .atoms .now) (a .listed .now) (a .a) (s .pre .3) p (r .reduce .ensures) _ _ class,
@@ -79,7 +80,7 @@ returns-2 c =
     let s = r .before .before .before .before .before .before .before in
     let a = s .args in
     let t = getD (a .target .now) 0 0 in
-    let none = solved-none (a .w) (r .reduce .result) t (sol .solve .result) (c .enum-told .given .1) (sol .solve .ensures) in
+    let none = solved-none (sol .solve .ensures) (c .enum-told .given .1) in
     sym (none-fits (a .w) (a .target .now) (a .atoms .now) (a .listed .now) (a .a) (s .pre .3) (r .reduce .result) (r .reduce .ensures) none _)
 
 first-by-slot-requires : tie.Need-first-by-slot-requires

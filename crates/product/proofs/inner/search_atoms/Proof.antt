@@ -6,13 +6,13 @@ use mathlib.Core.List.{List}
 use mathlib.Core.Logic.{inl, inr}
 use Prim.Native.Nat.{ℕ, _-_, _≤_, _<_}
 use native.Mathlib.Nat.{eq-or-lt-of-le}
-use Rattle.arith.proofs.Lists.{is-false}
+use Rattle.arith.proofs.Lists.{is-false, up-none}
 use Rattle.arith.proofs.Refusals.{true-not-false}
 use Rattle.arith.specs.Lists.{firstThat}
 use Rattle.product.specs.Trying.{fitting, withAtoms}
 use Rattle.product.specs.Steps.{fitsAt, atomSays}
 use Rattle.product.proofs.Trials.{fits-swap}
-use Rattle.product.proofs.Turns.{up-none, atomTrials, atoms-start, atoms-hit, atoms-miss, atoms-end}
+use Rattle.product.proofs.Turns.{atomTrials, atoms-start, atoms-hit, atoms-miss, atoms-end}
 use borrow.Author.Needs.{needs}
 use native.Mathlib.Omega.{arith}
 use Rattle.product.proofs.inner.search_atoms.Statement.{statement}

@@ -3,7 +3,7 @@ use mathlib.Core.Path.{ap, _∙_}
 use mathlib.Core.List.{_∷_, []}
 use Prim.Native.Nat.{ℕ}
 use borrow.Author.Needs.{needs}
-use Rattle.trial.proofs.StepLaws.{three}
+use Rattle.arith.proofs.Fill.{three-stored}
 use Rattle.trial.proofs.inner.write_pair.Statement.{statement}
 use Rattle.trial.proofs.inner.write_pair.Tie as tie
 
@@ -25,7 +25,7 @@ same-length c = search needs
 returns : tie.Need-returns
 returns c =
     let s = c .before .before in
-    three (s .args .part .now) _ (s .args .b .0) (s .args .c .0) (s .pre) ∙ ap (λ (x : ℕ). x ∷ (s .args .b .0 ∷ (s .args .c .0 ∷ []))) (c .gate-number .ensures)
+    three-stored (s .args .part .now) _ (s .args .b .0) (s .args .c .0) (s .pre) ∙ ap (λ (x : ℕ). x ∷ (s .args .b .0 ∷ (s .args .c .0 ∷ []))) (c .gate-number .ensures)
 
 pub write-pair-spec : {M : Type 1} → statement M
 write-pair-spec =

@@ -5,9 +5,10 @@ use Prim.Native.Nat.{_+_, _-_, _≤_}
 use native.Mathlib.Omega.{arith}
 use borrow.Author.Needs.{needs}
 use Rattle.pairs.specs.Index.{Trial, firstC, trialsUpTo}
+use Rattle.pairs.proofs.IndexLaws.{from-c}
 use Rattle.trial.specs.Steps.{trial}
 use Rattle.trials.proofs.LoopLaws.{ran-none, Loop, step-on, step-ended, renamed}
-use Rattle.trials.proofs.TrialLaws.{upLeft, up-start, up-more, up-rest, up-all, from-b}
+use Rattle.trials.proofs.TrialLaws.{upLeft, up-start, up-more, up-rest, up-all}
 use Rattle.trials.proofs.inner.try_with.Statement.{statement}
 use Rattle.trials.proofs.inner.try_with.Tie as tie
 
@@ -31,7 +32,7 @@ loop-holds c =
     let e = c .first-c .ensures in (
       omega (arith, e),
       (
-        omega (arith, e, from-b (a .g) (a .b .0) (a .job .count) (s .pre .1)),
+        omega (arith, e, from-c (a .g) (a .b .0) (a .job .count) (s .pre .1)),
         record {
           work-long = refl;
           pairs-long = refl;
