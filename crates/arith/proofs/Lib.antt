@@ -2,7 +2,3 @@
 pub mod Remainders
 pub mod Congruence
 pub mod Newton
-pub mod Fill
-pub mod Parts
-pub mod Refusals
-pub mod Lists

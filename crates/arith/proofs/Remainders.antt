@@ -1,15 +1,10 @@
 -- Laws of remainders, and of words of w bits for every w. Assumes nothing.
 use mathlib.Core.Path.{_≡_, refl, sym, ap, _∙_}
-use mathlib.Core.Logic.{_⊎_, inl, inr}
 use Prim.Native.Nat.{ℕ, _+_, _-_, _*_, _/_, _%_, _^_, _≤_, _<_, min}
-use native.Mathlib.Nat.{le-of-lt, lt-of-not-le, lt-of-le-of-lt, one-mul, mul-comm, mul-assoc, mul-add, add-mul, mul-left-comm, add-assoc, add-comm, add-left-comm, mod-eq-of-lt, mod-add-mod, mul-add-mod-self-right, div-add-mod', mul-le-mul-left, mul-lt-mul-of-pos-right, sub-add-cancel}
-use native.Mathlib.Decide.{decLe}
+use native.Mathlib.Nat.{le-of-lt, lt-of-le-of-lt, one-mul, mul-comm, mul-assoc, mul-add, add-mul, mul-left-comm, add-assoc, add-comm, add-left-comm, mod-eq-of-lt, mod-add-mod, mul-add-mod-self-right, div-add-mod', mul-le-mul-left, mul-lt-mul-of-pos-right, sub-add-cancel}
 use native.Mathlib.Omega.{arith}
 use lib.Pow.{pow-pos, pow-lt, split, mod-mod-pow}
 use Rattle.arith.specs.Word.{modulus}
-
-pub le-or-lt : (a b : ℕ) → (a ≤ b) ⊎ (b < a)
-le-or-lt a b = elim (decLe a b) [ yes h ↦ inl h | no h ↦ inr (lt-of-not-le h) ]
 
 -- ---- the modulus of a width
 pub width-le : (w : ℕ) → min w 64 ≤ 64

@@ -1,6 +1,3 @@
 -- What the contracts of this crate, and the definitions above it, cite.
 pub mod Word
 pub mod Cong
-pub mod Refusal
-pub mod Parts
-pub mod Lists

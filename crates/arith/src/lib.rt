@@ -1,15 +1,8 @@
 // Arithmetic on words of w bits, from arith.rs. The modulus is 2^w, and 2^64 for every w above 64, so that no call refuses a width.
-pub mod inner;
-
 ghost use mathlib.Core.Path.{_≡_};
 ghost use Prim.Native.Nat.{ℕ, _+_, _-_, _*_, _%_, _^_, _≤_};
 ghost use Rattle.arith.specs.Word.{modulus, notOf, negOf, subOf};
 ghost use Rattle.arith.specs.Cong.{Cong, Inverse};
-
-// The most variables of a formula, and bits of a word.
-pub const MAX_VARS: u32 = 6;
-
-pub const MAX_WIDTH: u32 = 64;
 
 // The mask of the w lowest bits: 0 at 0, all ones from 64 up.
 pub fn bitmask(w: u32) -> u64

@@ -8,17 +8,16 @@ use native.Mathlib.Omega.{arith}
 use borrow.Author.Tests.{lt-ltb, ltb-false}
 use lib.Dec.{ltb}
 use lib.ListN.{length}
-use Rattle.arith.specs.Refusal.{refuse, unlessRefused, badCount, badWidth, refused, answer, outcome}
-use Rattle.arith.proofs.Remainders.{le-or-lt}
-use Rattle.arith.proofs.Refusals.{true-not-false, within, passed, neither}
-use Rattle.probe.specs.declared.Point.{Point}
-use Rattle.atoms.specs.Encoding.{Arrays, written}
-use Rattle.atoms.specs.Stock.{bankOf}
-use Rattle.atoms.proofs.Banks.{bank-few}
+use Rattle.limits.specs.Refusal.{refuse, unlessRefused, badCount, badWidth, refused, answer, outcome}
+use Rattle.limits.proofs.Refusals.{le-or-lt, true-not-false, within, passed, neither}
+use Rattle.probe_points.specs.declared.Point.{Point}
+use Rattle.bank_spec.specs.Encoding.{Arrays, written}
+use Rattle.bank_spec.specs.Bank.{bankOf}
+use Rattle.bank_spec.proofs.Banks.{bank-few}
 use Rattle.bank.specs.declared.BankAnswer.the-variants.{Built, Refused}
-use Rattle.simd.specs.Range.{reaches}
+use Rattle.row_lent.specs.Range.{reaches}
 use Rattle.bank.specs.Build.{sizesOf, tooSmall, pointsReach, bankRefusal, BankBuilt}
-use Rattle.turns.specs.Phases.{Asked, Phase, Fits}
+use Rattle.bank_unary.specs.Phases.{Asked, Phase, Fits}
 
 -- ---- where nothing is refused
 module _ (nv w : ℕ) (points : List Point) (target : List ℕ) (a : Arrays) (work : List ℕ) (e : bankRefusal nv w points target (sizesOf a work) ≡ 0) where

@@ -6,8 +6,8 @@ use Prim.Native.Nat.{ℕ, suc, _+_, _≤_, _<_}
 use native.Mathlib.Numerals.{add-one}
 use lib.ListN.{length, getD, take, drop, drop-of-length-le}
 use lib.Seq.{drop-cons}
-use Rattle.probe.specs.declared.Point.{Point}
-use Rattle.simd.specs.Range.{reaches}
+use Rattle.probe_points.specs.declared.Point.{Point}
+use Rattle.row_lent.specs.Range.{reaches}
 use Rattle.bank.specs.Build.{pointsReach}
 
 -- what the point at place k tells of those from there on: one of its words reaches, or it depends on the later points

@@ -5,12 +5,12 @@ use mathlib.Core.List.{List, [], _∷_}
 use Prim.Native.Nat.{ℕ, _*_, _^_}
 use lib.Dec.{ltb}
 use lib.ListN.{length, take}
-use Rattle.arith.specs.Refusal.{refuse, unlessRefused, badCount, badWidth, Outcome, refused, answer, outcome}
-use Rattle.simd.specs.Limits.{atomsMax}
-use Rattle.simd.specs.Range.{reaches}
-use Rattle.probe.specs.declared.Point.{Point}
-use Rattle.atoms.specs.Stock.{bankOf}
-use Rattle.atoms.specs.Encoding.{Arrays, written}
+use Rattle.limits.specs.Refusal.{refuse, unlessRefused, badCount, badWidth, Outcome, refused, answer, outcome}
+use Rattle.limits.specs.Limits.{atomsMax}
+use Rattle.row_lent.specs.Range.{reaches}
+use Rattle.probe_points.specs.declared.Point.{Point}
+use Rattle.bank_spec.specs.Bank.{bankOf}
+use Rattle.bank_spec.specs.Encoding.{Arrays, written}
 use Rattle.bank.specs.declared.Sizes.{Sizes}
 use Rattle.bank.specs.declared.BankAnswer.{BankAnswer}
 use Rattle.bank.specs.declared.BankAnswer.the-variants.{Built, Refused}

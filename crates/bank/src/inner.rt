@@ -1,15 +1,15 @@
 // The refusals of a bank build.
 use crate::Sizes;
-use entry::ATOM_TOKENS;
-use parts::COST_NUMBERS;
-use pool::WORK_WORDS;
-use probe::Point;
-use simd::ATOMS_MAX;
-use simd::ROW_WORDS;
+use bank_atom::ATOM_TOKENS;
+use bank_parts::COST_NUMBERS;
+use bank_push::WORK_WORDS;
+use limits::ATOMS_MAX;
+use probe_points::Point;
+use row_gates::ROW_WORDS;
 ghost use mathlib.Core.Path.{_≡_};
 ghost use Prim.Native.Nat.{_^_, _≤_};
 ghost use lib.ListN.{take};
-ghost use Rattle.simd.specs.Range.{reaches};
+ghost use Rattle.row_lent.specs.Range.{reaches};
 ghost use Rattle.bank.specs.Build.{tooSmall, pointsReach, bankRefusal};
 
 // Whether an array is too short for 479 atoms.
@@ -70,10 +70,10 @@ fn points_reach(points: [Point; 16], nv: usize, w: u32) -> bool
 pub fn bank_refusal(nv: u32, w: u32, points: [Point; 16], target: [u64; 16], sizes: Sizes) -> u32
     ensures { λ r. ⌜ r ≡ bankRefusal nv w points target sizes ⌝ }
 {
-    if arith::inner::bad_count(nv) {
+    if limits::inner::bad_count(nv) {
         return 1;
     }
-    if arith::inner::bad_width(w) {
+    if limits::inner::bad_width(w) {
         return 2;
     }
     if too_small(sizes) {
@@ -82,7 +82,7 @@ pub fn bank_refusal(nv: u32, w: u32, points: [Point; 16], target: [u64; 16], siz
     if points_reach(points, nv as usize, w) {
         return 5;
     }
-    if simd::inner::row_reaches(target, w) {
+    if row_lent::inner::row_reaches(target, w) {
         return 5;
     }
     0

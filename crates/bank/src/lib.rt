@@ -1,8 +1,8 @@
 // The bank, built into lent arrays: `try_template_decomposition` of template_decomposer.rs.
 pub mod inner;
 
-use probe::Point;
-ghost use Rattle.parts.specs.Parts.{arrays};
+use probe_points::Point;
+ghost use Rattle.bank_parts.specs.Parts.{arrays};
 ghost use Rattle.bank.specs.Build.{BankBuilt};
 
 // The lengths of the lent arrays.
@@ -49,7 +49,7 @@ pub fn build_bank(
     if number != 0 {
         return BankAnswer::Refused(number);
     }
-    let count = phases::inner::build(
+    let count = bank_phases::inner::build(
         lengths,
         ops,
         operands,

@@ -2,7 +2,7 @@
 use crate::check::narrow;
 use bank::BankAnswer;
 use bank::Sizes;
-use probe::Point;
+use probe_points::Point;
 ghost use Prim.Native.Nat.{_+_, _*_, _≤_, _<_};
 ghost use lib.ListN.{length};
 

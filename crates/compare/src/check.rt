@@ -4,9 +4,9 @@ use crate::formulas;
 use crate::indexes;
 use crate::searches;
 use crate::texts;
-use simd::Gate;
-use simd::Match;
-use simd::RowAnswer;
+use row_gates::Gate;
+use row_gates::Match;
+use row_gates::RowAnswer;
 ghost use Prim.Native.Nat.{_+_, _≤_};
 ghost use lib.ListN.{length};
 
@@ -64,7 +64,7 @@ fn words_same(words: &[u64], line: &[u64], base: usize) -> bool
 }
 
 fn gate_of(number: u64) -> Gate {
-    simd::inner::gate_at(narrow(number))
+    row_gates::inner::gate_at(narrow(number))
 }
 
 // 1 STATE NEXT WORD
@@ -72,7 +72,7 @@ fn splitmix64_same(line: &[u64]) -> bool {
     if line.len() != 4 {
         return false;
     }
-    let d = probe::splitmix64(line[1]);
+    let d = probe_points::splitmix64(line[1]);
     if d.state != line[2] {
         return false;
     }
@@ -84,7 +84,7 @@ fn points_same(line: &[u64]) -> bool {
     if line.len() != 100 {
         return false;
     }
-    let made = probe::make_probe_points(narrow(line[1]), narrow(line[2]));
+    let made = probe_points::make_probe_points(narrow(line[1]), narrow(line[2]));
     if made.refusal as u64 != line[3] {
         return false;
     }
@@ -99,7 +99,7 @@ fn points_same(line: &[u64]) -> bool {
     true
 }
 
-fn point_same(p: probe::Point, line: &[u64], base: usize) -> bool
+fn point_same(p: probe_points::Point, line: &[u64], base: usize) -> bool
     requires { ⌜ base + 6 ≤ length (now line) ⌝ }
 {
     let words = p.words;
@@ -111,7 +111,7 @@ fn fingerprint_same(line: &[u64]) -> bool {
     if line.len() != 18 {
         return false;
     }
-    probe::fingerprint(banks::row_at(line, 1)) == line[17]
+    row_fingerprint::fingerprint(banks::row_at(line, 1)) == line[17]
 }
 
 // The refusal at place 3, and the answer's row from place 36 on.
@@ -133,7 +133,7 @@ fn gate_same(line: &[u64]) -> bool {
     if 4 < line[1] {
         return false;
     }
-    let r = simd::gate_apply(
+    let r = row_gates::gate_apply(
         banks::row_at(line, 4),
         banks::row_at(line, 20),
         gate_of(line[1]),
@@ -150,7 +150,7 @@ fn residual_same(line: &[u64]) -> bool {
     if 4 < line[1] {
         return false;
     }
-    let r = simd::gate_residual(
+    let r = row_gates::gate_residual(
         banks::row_at(line, 4),
         banks::row_at(line, 20),
         gate_of(line[1]),
@@ -167,7 +167,7 @@ fn matches_same(line: &[u64]) -> bool {
     if 4 < line[1] {
         return false;
     }
-    let m = simd::gate_matches(
+    let m = row_gates::gate_matches(
         banks::row_at(line, 5),
         banks::row_at(line, 21),
         banks::row_at(line, 37),

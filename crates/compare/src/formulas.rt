@@ -1,6 +1,6 @@
 // Lines about formulas. data/formulas.txt tells what stands in them.
 use crate::check::narrow;
-use evaluator::Value;
+use expr_eval::Value;
 ghost use mathlib.Core.Path.{_≡_};
 ghost use Prim.Native.Nat.{_+_, _*_, _≤_, _<_};
 ghost use lib.ListN.{length};
@@ -94,7 +94,7 @@ fn value_is(
 {
     let w = narrow(line[2]);
     let to = from + nv;
-    let v = evaluator::eval(nv as u32, w, count, ops, operands, &line[from..to]);
+    let v = expr_eval::eval(nv as u32, w, count, ops, operands, &line[from..to]);
     match v {
         Value::Word(word) => word == line[to],
         Value::Refused(_) => false,
@@ -172,7 +172,7 @@ fn cost_refusal_is(line: &[u64], ops: &[u8], operands: &[u64], refusal: u64) -> 
 fn value_refusal_is(line: &[u64], ops: &[u8], operands: &[u64], words: &[u64], refusal: u64) -> bool
     requires { ⌜ 9 ≤ length (now line) ⌝ }
 {
-    let v = evaluator::eval(
+    let v = expr_eval::eval(
         narrow(line[1]),
         narrow(line[2]),
         line[3] as usize,

@@ -2,9 +2,9 @@
 use crate::banks;
 use crate::check::narrow;
 use crate::indexes;
-use candidates::CandidatesAnswer;
 use index::IndexAnswer;
-use search::ProductAnswer;
+use search_candidates::CandidatesAnswer;
+use search_product::ProductAnswer;
 ghost use Prim.Native.Nat.{_+_, _≤_};
 ghost use lib.ListN.{length};
 
@@ -83,7 +83,7 @@ fn list_same(line: &[u64], n: usize, at: usize) -> bool
     let rows = rows_at(line, n);
     let slots = slots_at(line, 3 + n, n);
     let mut list = [indexes::OLD_HALF; 250];
-    let r = candidates::collect_mul_probe0_candidates(
+    let r = search_candidates::collect_mul_probe0_candidates(
         narrow(line[1]),
         n,
         &rows,
@@ -160,7 +160,7 @@ fn search_is(line: &[u64], at: usize, count: usize, rows: &[u64]) -> bool
     );
     let n = pairs_of(built);
     let row = banks::row_at(line, at + 2);
-    let r = search::product_search(w, count, rows, n, &listed, &slots, row);
+    let r = search_product::product_search(w, count, rows, n, &listed, &slots, row);
     product_is(r, line, at + 18)
 }
 
@@ -231,7 +231,7 @@ fn product_refusal(atoms: &[u64], listed: &[u64], slots: &[u32], line: &[u64]) -
     let slots_end = indexes::least(line[6], slots.len());
     let mut target = [0u64; 16];
     target[15] = line[7];
-    let r = search::product_search(
+    let r = search_product::product_search(
         narrow(line[1]),
         line[2] as usize,
         &atoms[..atoms_end],
@@ -272,7 +272,7 @@ fn candidates_of_parts(list: &mut [u32], listed: &[u64], slots: &[u32], line: &[
     let listed_end = indexes::least(line[3], listed.len());
     let slots_end = indexes::least(line[4], slots.len());
     let list_end = indexes::least(line[5], list.len());
-    let r = candidates::collect_mul_probe0_candidates(
+    let r = search_candidates::collect_mul_probe0_candidates(
         narrow(line[1]),
         line[2] as usize,
         &listed[..listed_end],

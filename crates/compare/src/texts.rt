@@ -1,6 +1,6 @@
 // The cases of listings.txt: a line `20 A B`, then A bytes of a text, B bytes that the listing program must print of it, and a line end.
 use listing::ListingAnswer;
-use parse::Parse;
+use text_parse::Parse;
 
 const KIND: u64 = 20;
 
@@ -32,7 +32,7 @@ pub fn none() -> Case {
         open: false,
         line: 0,
         text_left: 0,
-        parse: parse::begin(),
+        parse: text_parse::begin(),
         written: false,
         expected: 0,
         at: 0,
@@ -77,7 +77,7 @@ fn feed_text(mut c: Case, byte: u8) -> Case {
     }
     c.text_left -= 1;
     let part = [byte];
-    c.parse = parse::feed(c.parse, &part);
+    c.parse = text_parse::feed(c.parse, &part);
     c
 }
 

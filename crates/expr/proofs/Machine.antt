@@ -8,8 +8,8 @@ use native.Mathlib.Omega.{arith}
 use borrow.Author.Tests.{lt-ltb, le-ltb, ne-eqb, ltb-true}
 use lib.Dec.{eqb}
 use lib.ListN.{length}
-use Rattle.arith.specs.Refusal.{outsideOf}
-use Rattle.arith.proofs.Refusals.{true-not-false, within}
+use Rattle.limits.specs.Refusal.{outsideOf}
+use Rattle.limits.proofs.Refusals.{true-not-false, within}
 use Rattle.expr.specs.declared.Token.{Token}
 use Rattle.expr.specs.declared.Token.the-variants.{Constant, Variable, Binary, Not, Neg, Bad}
 use Rattle.expr.specs.Formula.{Alg, step, run, only, whole, Mark, markAlg, isSome, leavesOne, known, allKnown, isFormula, arity}

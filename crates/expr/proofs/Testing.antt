@@ -7,7 +7,7 @@ use native.Mathlib.Omega.{arith}
 use borrow.Author.Tests.{lt-ltb, le-ltb}
 use lib.Dec.{eqb, ltb}
 use lib.ListN.{drop, drop-of-length-le}
-use Rattle.arith.specs.Refusal.{outsideOf}
+use Rattle.limits.specs.Refusal.{outsideOf}
 use Rattle.expr.specs.declared.Token.{Token}
 use Rattle.expr.specs.Formula.{tokenAt, tokens, known, isFormula, arity}
 use Rattle.expr.proofs.Tokens.{tokens-length, tokens-next}

@@ -9,9 +9,9 @@ use borrow.Author.Tests.{lt-ltb, le-ltb}
 use lib.Dec.{leb·suc-suc}
 use lib.ListN.{length, getD, take, drop, length-append, List·getD-append}
 use lib.Seq.{getD-at, drop-cons, take-all, take-append-le}
-use Rattle.arith.proofs.Remainders.{le-or-lt}
+use Rattle.limits.proofs.Refusals.{le-or-lt}
 use mathlib.Core.Logic.{_⊎_, inl, inr}
-use Rattle.simd.specs.declared.Gate.the-variants.{And, Or, Xor, Add, Mul}
+use Rattle.row_gates.specs.declared.Gate.the-variants.{And, Or, Xor, Add, Mul}
 use Rattle.expr.specs.declared.Token.{Token}
 use Rattle.expr.specs.declared.Token.the-variants.{Constant, Variable, Binary, Not, Neg, Bad}
 use Rattle.expr.specs.Formula.{tokenOf, opcodeOf, operandOf, tokenAt, tokens}

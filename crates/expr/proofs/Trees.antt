@@ -7,7 +7,7 @@ use Prim.Native.Nat.{ℕ, zero, suc, _≤_}
 use native.Mathlib.Omega.{arith}
 use lib.Dec.{ltb}
 use lib.ListN.{length, length-append}
-use Rattle.arith.proofs.Refusals.{true-not-false}
+use Rattle.limits.proofs.Refusals.{true-not-false}
 use Rattle.expr.specs.declared.Token.{Token}
 use Rattle.expr.specs.declared.Token.the-variants.{Constant, Variable, Binary, Not, Neg, Bad}
 use Rattle.expr.specs.Formula.{Alg, step, run, only, whole, Mark, markAlg, isSome, leavesOne, known, allKnown, isFormula}

@@ -2,7 +2,7 @@
 pub mod inner;
 mod reader;
 
-use simd::Gate;
+use row_gates::Gate;
 ghost use mathlib.Core.Path.{_≡_};
 ghost use Rattle.expr.specs.Formula.{tokenOf, arity, tokenAt, tokens, known, isFormula};
 

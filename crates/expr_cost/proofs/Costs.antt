@@ -8,7 +8,7 @@ use native.Mathlib.Decide.{ℕ-discrete}
 use native.Mathlib.Omega.{arith}
 use lib.Dec.{ltb}
 use borrow.Author.Tests.{eq-eqb, ne-eqb, lt-ltb, le-ltb, ltb-true}
-use Rattle.arith.proofs.Remainders.{le-or-lt}
+use Rattle.limits.proofs.Refusals.{le-or-lt}
 use Rattle.expr_cost.specs.declared.Cost.{Cost}
 use Rattle.expr_cost.specs.Cost.{underGate, isBetter}
 

@@ -1,7 +1,7 @@
 -- What `compute_cost` answers, with the refusals of 01's table. Assumes nothing.
 use mathlib.Core.List.{List}
 use Prim.Native.Nat.{ℕ}
-use Rattle.arith.specs.Refusal.{refuse, unlessRefused, badCount}
+use Rattle.limits.specs.Refusal.{refuse, unlessRefused, badCount}
 use Rattle.expr.specs.Formula.{tokens}
 use Rattle.expr.specs.Answers.{tooShort, notFormula}
 use Rattle.expr_cost.specs.declared.Cost.{Cost}

@@ -3,8 +3,8 @@ use mathlib.Core.Bool.{Bool, true, false, cond, _&&_, _||_}
 use mathlib.Core.List.{List}
 use Prim.Native.Nat.{_+_, _<_, _^_, max}
 use lib.Dec.{eqb, ltb}
-use Rattle.simd.specs.declared.Gate.{Gate}
-use Rattle.simd.specs.declared.Gate.the-variants.{And, Or, Xor, Add, Mul}
+use Rattle.row_gates.specs.declared.Gate.{Gate}
+use Rattle.row_gates.specs.declared.Gate.the-variants.{And, Or, Xor, Add, Mul}
 use Rattle.expr.specs.declared.Token.{Token}
 use Rattle.expr.specs.Formula.{Alg, whole, orElse}
 use Rattle.expr_cost.specs.declared.Cost.{Cost}

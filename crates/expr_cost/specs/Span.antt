@@ -4,7 +4,7 @@ use mathlib.Core.Bool.{Bool, true}
 use mathlib.Core.List.{List}
 use Prim.Native.Nat.{ℕ, zero, suc, _+_, _-_, _≤_}
 use lib.ListN.{drop}
-use Rattle.simd.specs.declared.Gate.{Gate}
+use Rattle.row_gates.specs.declared.Gate.{Gate}
 use Rattle.expr.specs.declared.Token.{Token}
 use Rattle.expr.specs.Formula.{tokenAt, tokens, leavesOne, arity}
 use Rattle.expr_cost.specs.declared.inner.SpanCost.{SpanCost}

@@ -2,7 +2,7 @@
 use crate::Cost;
 use crate::CostInfo;
 use expr::Token;
-use simd::Gate;
+use row_gates::Gate;
 ghost use mathlib.Core.Path.{_≡_};
 ghost use mathlib.Core.Bool.{_||_};
 ghost use Prim.Native.Nat.{max};

@@ -5,9 +5,9 @@ use Prim.Native.Nat.{ℕ, _+_, _*_, _/_, _≤_}
 use native.Mathlib.Omega.{arith}
 use borrow.Author.Tests.{ltb-false}
 use lib.Dec.{ltb}
-use Rattle.simd.specs.Limits.{atomsMax, pairsMax, tooManyAtoms}
-use Rattle.arith.specs.Refusal.{badWidth}
-use Rattle.arith.proofs.Refusals.{within, passed, neither, enough}
+use Rattle.limits.specs.Limits.{atomsMax, pairsMax, tooManyAtoms}
+use Rattle.limits.specs.Refusal.{badWidth}
+use Rattle.limits.proofs.Refusals.{within, passed, neither, enough}
 use Rattle.index.specs.Build.{tooShort, refusalOf}
 
 -- the last of five conditions, where those before it do not apply

@@ -6,23 +6,23 @@ use Prim.Native.Nat.{ℕ, _*_, _^_, _≤_, _<_}
 use native.Mathlib.Omega.{arith}
 use lib.ListN.{length, getD, take, drop, take-append-drop}
 use lib.Seq.{getD-take}
-use Rattle.arith.specs.Parts.{encode}
-use Rattle.arith.specs.Refusal.{refused, answer}
-use Rattle.arith.proofs.Refusals.{unless-refused, unless-not}
-use Rattle.order.specs.Order.{firstWord, orderOf}
-use Rattle.order.proofs.OrderLaws.{order-same}
-use Rattle.maps.specs.declared.inner.Job.{Job}
-use Rattle.trial.specs.declared.inner.Tally.{Tally}
+use Rattle.arrays.specs.Parts.{encode}
+use Rattle.limits.specs.Refusal.{refused, answer}
+use Rattle.limits.proofs.Refusals.{unless-refused, unless-not}
+use Rattle.index_order.specs.Order.{firstWord, orderOf}
+use Rattle.index_order.proofs.OrderLaws.{order-same}
+use Rattle.index_maps.specs.declared.inner.Job.{Job}
+use Rattle.index_trial.specs.declared.inner.Tally.{Tally}
 use Rattle.index.specs.declared.IndexAnswer.the-variants.{Built, Refused}
-use Rattle.pairs.specs.Index.{Pair, allGates, rowsOf, rowsIn, trialsOf}
-use Rattle.pairs.specs.Turns.{tryAll, noPairs, turnsOf}
-use Rattle.pairs.specs.Encoding.{pairPart, pairRow}
+use Rattle.index_spec.specs.Index.{Pair, allGates, rowsOf, rowsIn, trialsOf}
+use Rattle.index_spec.specs.Trials.{tryAll, noPairs, triedOf}
+use Rattle.index_spec.specs.Encoding.{pairPart, pairRow}
 use Rattle.index.specs.Build.{Arrays, Summary, indexRefusal, lentIndex, IndexBuilt}
-use Rattle.maps.specs.Area.{headRoom, Prepared}
-use Rattle.trial.specs.Steps.{Ready, Is, Ran}
+use Rattle.index_maps.specs.Area.{headRoom, Prepared}
+use Rattle.index_trial.specs.Steps.{Ready, Is, Ran}
 use Rattle.index.specs.Steps.{Fits, Made}
-use Rattle.pairs.proofs.IndexLaws.{by-turns}
-use Rattle.pairs.proofs.RowLaws.{length-rowsOf, rows-written}
+use Rattle.index_spec.proofs.IndexLaws.{by-trials}
+use Rattle.index_spec.proofs.RowLaws.{length-rowsOf, rows-written}
 use Rattle.index.proofs.Passing.{Passed}
 
 abbrev pub jobOf : ℕ → ℕ → ℕ → ℕ → Job
@@ -55,10 +55,10 @@ is-start pairs listed = record { count = refl; mark = refl; pairs-are = refl; ro
 module _ (w count limit bits : ℕ) (rows pairs listed order work′ pairs′ listed′ order′ : List ℕ) (r : Tally) where
   is-whole : Ran (jobOf w count limit bits) rows pairs listed 0 work′ pairs′ listed′ r (trialsOf allGates count)
       → Is pairs listed pairs′ listed′ (r .pairs) (r .cut) (lentIndex w count rows limit)
-  unfolding turnsOf
+  unfolding triedOf
   is-whole ran =
       subst (Is pairs listed pairs′ listed′ (r .pairs) (r .cut))
-      (ap (λ (k : ℕ). tryAll w limit (rowsOf count rows) noPairs (trialsOf allGates k)) (sym (length-rowsOf count rows)) ∙ by-turns w limit allGates (rowsOf count rows))
+      (ap (λ (k : ℕ). tryAll w limit (rowsOf count rows) noPairs (trialsOf allGates k)) (sym (length-rowsOf count rows)) ∙ by-trials w limit allGates (rowsOf count rows))
       (ran .index pairs listed noPairs (is-start pairs listed))
 
   pub made-is : Ran (jobOf w count limit bits) rows pairs listed 0 work′ pairs′ listed′ r (trialsOf allGates count) → order′ ≡ orderOf (r .pairs) listed′ ++ drop (r .pairs) order

@@ -5,12 +5,12 @@ use mathlib.Core.List.{List, _++_}
 use Prim.Native.Nat.{ℕ, _+_, _/_, _<_}
 use lib.Dec.{ltb}
 use lib.ListN.{length, drop}
-use Rattle.simd.specs.Limits.{atomsMax, pairsMax, tooManyAtoms}
-use Rattle.arith.specs.Parts.{encode, spread}
-use Rattle.arith.specs.Refusal.{refuse, unlessRefused, badWidth, Outcome, refused, answer, outcome}
-use Rattle.order.specs.Order.{orderOf}
-use Rattle.pairs.specs.Index.{Pair, Index, allGates, rowsOf, indexOf}
-use Rattle.pairs.specs.Encoding.{pairPart, pairRow}
+use Rattle.limits.specs.Limits.{atomsMax, pairsMax, tooManyAtoms}
+use Rattle.arrays.specs.Parts.{encode, spread}
+use Rattle.limits.specs.Refusal.{refuse, unlessRefused, badWidth, Outcome, refused, answer, outcome}
+use Rattle.index_order.specs.Order.{orderOf}
+use Rattle.index_spec.specs.Index.{Pair, Index, allGates, rowsOf, indexOf}
+use Rattle.index_spec.specs.Encoding.{pairPart, pairRow}
 use Rattle.index.specs.declared.IndexAnswer.{IndexAnswer}
 use Rattle.index.specs.declared.IndexAnswer.the-variants.{Built, Refused}
 

@@ -3,10 +3,10 @@ use mathlib.Core.Path.{_≡_}
 use mathlib.Core.List.{List, _++_}
 use Prim.Native.Nat.{ℕ, _+_, _*_, _≤_}
 use lib.ListN.{length, drop}
-use Rattle.simd.specs.Limits.{atomsMax, pairsMax}
-use Rattle.arith.specs.Parts.{spread}
-use Rattle.pairs.specs.Encoding.{pairPart, pairRow}
-use Rattle.trial.specs.declared.inner.Tally.{Tally}
+use Rattle.limits.specs.Limits.{atomsMax, pairsMax}
+use Rattle.arrays.specs.Parts.{spread}
+use Rattle.index_spec.specs.Encoding.{pairPart, pairRow}
+use Rattle.index_trial.specs.declared.inner.Tally.{Tally}
 use Rattle.index.specs.Build.{orderList, lentIndex}
 
 -- what a build that is not refused is called with

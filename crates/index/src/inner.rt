@@ -1,12 +1,12 @@
 // What the index build is made of: its refusals, and the build into arrays that are tested.
-use maps::inner::Job;
-use pairs::PAIR_WORDS;
-use simd::ATOMS_MAX;
-use simd::PAIRS_MAX;
-use trial::inner::Tally;
+use index_maps::inner::Job;
+use index_spec::PAIR_WORDS;
+use index_trial::inner::Tally;
+use limits::ATOMS_MAX;
+use limits::PAIRS_MAX;
 ghost use mathlib.Core.Path.{_≡_};
 ghost use Prim.Native.Nat.{_≤_};
-ghost use Rattle.simd.specs.Limits.{pairsMax};
+ghost use Rattle.limits.specs.Limits.{pairsMax};
 ghost use Rattle.index.specs.Build.{tooShort, refusalOf};
 ghost use Rattle.index.specs.Steps.{Fits, Made};
 
@@ -26,13 +26,13 @@ fn too_short(
     requires { ⌜ limit ≤ pairsMax ⌝ }
     ensures { λ r. ⌜ r ≡ tooShort count limit rows pairs listed order work ⌝ }
 {
-    if rows / simd::ROW_WORDS < count {
+    if rows / row_gates::ROW_WORDS < count {
         return true;
     }
     if pairs / PAIR_WORDS < limit {
         return true;
     }
-    if listed / simd::ROW_WORDS < limit {
+    if listed / row_gates::ROW_WORDS < limit {
         return true;
     }
     if order < limit {
@@ -54,7 +54,7 @@ pub fn refusal_of(
 ) -> u32
     ensures { λ r. ⌜ r ≡ refusalOf w count limit rows pairs listed order work ⌝ }
 {
-    if arith::inner::bad_width(w) {
+    if limits::inner::bad_width(w) {
         return 2;
     }
     if PAIRS_MAX < limit {
@@ -83,16 +83,16 @@ pub fn build(
     requires { ⌜ Fits w count limit (now rows) (now work) (now pairs) (now listed) (now slots) ⌝ }
     ensures { λ r. ⌜ Made w count limit (now (rows .entry)) (now (pairs .entry)) (now (listed .entry)) (now (slots .entry)) (now (pairs .exit)) (now (listed .exit)) (now (slots .exit)) r ⌝ }
 {
-    let bits = maps::inner::map_bits(limit, count);
+    let bits = index_maps::inner::map_bits(limit, count);
     let job = Job {
         w,
         count,
         limit,
         bits,
     };
-    maps::inner::prepare(work, rows, job);
-    let tally = trials::inner::try_gates(work, pairs, listed, rows, job);
+    index_maps::inner::prepare(work, rows, job);
+    let tally = index_loops::inner::try_gates(work, pairs, listed, rows, job);
     let n = tally.pairs;
-    radix::inner::sort_order(slots, work, listed, n);
+    index_sort::inner::sort_order(slots, work, listed, n);
     tally
 }

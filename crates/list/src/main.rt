@@ -1,6 +1,6 @@
 // The listing program: reads a text from standard input to its end, and writes the listing of the bank and the index that it asks for, or its refusal.
 use listing::ListingAnswer;
-use parse::Parse;
+use text_parse::Parse;
 
 const STANDARD_INPUT: i32 = 0;
 
@@ -23,13 +23,13 @@ fn read_some(p: Parse) -> Turn {
         return Turn { parse: p, state: 1 };
     }
     let n = io::count(got, &buffer);
-    let q = parse::feed(p, &buffer[..n]);
+    let q = text_parse::feed(p, &buffer[..n]);
     Turn { parse: q, state: 0 }
 }
 
 // Read after read to the text's end, or to a read that fails. A loop has to end: no run uses up 2^40 reads.
 fn read_all() -> Turn {
-    let mut p = parse::begin();
+    let mut p = text_parse::begin();
     let mut turns: u64 = 0;
     while turns < 0x100_0000_0000 {
         let t = read_some(p);

@@ -5,24 +5,24 @@ use Prim.Native.Nat.{ℕ, _*_, _≤_, _<_}
 use native.Mathlib.Omega.{arith}
 use lib.ListN.{length, getD, length-map}
 use lib.Seq.{ext-getD}
-use Rattle.arith.specs.Parts.{spread}
-use Rattle.arith.proofs.Lists.{getD-map}
-use Rattle.probe.specs.declared.Point.{Point}
-use Rattle.trial.specs.declared.inner.Tally.{Tally}
-use Rattle.pairs.specs.Index.{Index, allGates, rowsOf, indexOf}
-use Rattle.pairs.specs.Encoding.{pairPart}
+use Rattle.arrays.specs.Parts.{spread}
+use Rattle.arrays.proofs.Lists.{getD-map}
+use Rattle.probe_points.specs.declared.Point.{Point}
+use Rattle.index_trial.specs.declared.inner.Tally.{Tally}
+use Rattle.index_spec.specs.Index.{Index, allGates, rowsOf, indexOf}
+use Rattle.index_spec.specs.Encoding.{pairPart}
 use Rattle.index.specs.Build.{lentIndex}
 use Rattle.index.specs.Steps as index
-use Rattle.pairs.proofs.RowLaws.{length-rowsOf, rows-at}
-use Rattle.atoms.specs.Bank.{Atom, noAtom}
-use Rattle.atoms.specs.Stock.{bankOf}
-use Rattle.atoms.specs.Encoding.{Arrays, written}
-use Rattle.atoms.proofs.Encodings.{length-at, row-at}
-use Rattle.atoms.proofs.Banks.{bank-is-sound}
-use Rattle.turns.specs.Phases.{Asked, Phase}
-use Rattle.print.specs.Text.{listingOf}
-use Rattle.print.specs.Printing.{Wrote}
-use Rattle.print.proofs.Decimals.{reads}
+use Rattle.index_spec.proofs.RowLaws.{length-rowsOf, rows-at}
+use Rattle.bank_spec.specs.Push.{Atom, noAtom}
+use Rattle.bank_spec.specs.Bank.{bankOf}
+use Rattle.bank_spec.specs.Encoding.{Arrays, written}
+use Rattle.bank_spec.proofs.Encodings.{length-at, row-at}
+use Rattle.bank_spec.proofs.Banks.{bank-is-sound}
+use Rattle.bank_unary.specs.Phases.{Asked, Phase}
+use Rattle.text_print.specs.Text.{listingOf}
+use Rattle.text_print.specs.Printing.{Wrote}
+use Rattle.text_print.proofs.Decimals.{reads}
 use Rattle.listing.specs.Listing.{countOf, widthOf, limitOf, pointsOf, targetOf, bankFor, textFor}
 use Rattle.listing.specs.Steps.{bankIndex, Lent, Both}
 

@@ -11,20 +11,20 @@ use borrow.Author.Tests.{lt-ltb, le-ltb, eqb-true}
 use lib.Dec.{ltb}
 use lib.ListN.{length, take, drop, length-drop}
 use lib.Seq.{length-take-le, getD-take, getD-drop, ext-getD}
-use Rattle.arith.specs.Lists.{countUp}
-use Rattle.arith.specs.Refusal.{refuse, badCount, badWidth, answer}
-use Rattle.arith.proofs.Lists.{bool-cases, false-true}
-use Rattle.arith.proofs.Refusals.{within}
-use Rattle.probe.specs.declared.Point.{Point}
-use Rattle.atoms.specs.Encoding.{padTo}
-use Rattle.atoms.specs.Stock.{bankOf}
-use Rattle.simd.specs.Range.{reaches}
+use Rattle.arrays.specs.Lists.{countUp}
+use Rattle.limits.specs.Refusal.{refuse, badCount, badWidth, answer}
+use Rattle.arrays.proofs.Lists.{bool-cases, false-true}
+use Rattle.limits.proofs.Refusals.{within}
+use Rattle.probe_points.specs.declared.Point.{Point}
+use Rattle.bank_spec.specs.Encoding.{padTo}
+use Rattle.bank_spec.specs.Bank.{bankOf}
+use Rattle.row_lent.specs.Range.{reaches}
 use Rattle.bank.specs.Build.{pointsReach}
-use Rattle.parse.specs.Text.{rightMany, ifRight, numbersOf, wordsOf, readText}
-use Rattle.parse.specs.Reading.{Keeps, Given}
-use Rattle.print.specs.Text.{refusedLine, listingOf}
-use Rattle.print.specs.Printing.{Wrote, textMax}
-use Rattle.print.proofs.Decimals.{reads}
+use Rattle.text_parse.specs.Text.{rightMany, ifRight, numbersOf, wordsOf, readText}
+use Rattle.text_parse.specs.Reading.{Keeps, Given}
+use Rattle.text_print.specs.Text.{refusedLine, listingOf}
+use Rattle.text_print.specs.Printing.{Wrote, textMax}
+use Rattle.text_print.proofs.Decimals.{reads}
 use Rattle.listing.specs.declared.ListingAnswer.the-variants.{Written}
 use Rattle.listing.specs.Listing.{countOf, widthOf, limitOf, pointOf, pointsOf, targetOf, numbersRefusal, bankFor, textFor, textOf, listing, Laid}
 use Rattle.listing.specs.Steps.{pointFrom, bankIndex}

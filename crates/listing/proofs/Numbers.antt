@@ -7,12 +7,12 @@ use native.Mathlib.Numerals.{add-one}
 use native.Mathlib.Omega.{arith}
 use lib.ListN.{length, getD, set, take, drop, length-drop}
 use lib.Seq.{take-all, take-suc, take-suc-set, length-take-le, getD-take, getD-drop}
-use Rattle.arith.specs.Lists.{countUp}
-use Rattle.arith.proofs.Lists.{count-add}
-use Rattle.arith.proofs.Fill.{Filled, filled-all}
-use Rattle.probe.specs.declared.Point.{Point}
-use Rattle.atoms.specs.Encoding.{padTo}
-use Rattle.atoms.proofs.Encodings.{pad-more}
+use Rattle.arrays.specs.Lists.{countUp}
+use Rattle.arrays.proofs.Lists.{count-add}
+use Rattle.arrays.proofs.Fill.{Filled, filled-all}
+use Rattle.probe_points.specs.declared.Point.{Point}
+use Rattle.bank_spec.specs.Encoding.{padTo}
+use Rattle.bank_spec.proofs.Encodings.{pad-more}
 use Rattle.listing.specs.Listing.{countOf, pointOf, pointsOf, targetOf}
 use Rattle.listing.specs.Steps.{pointFrom}
 

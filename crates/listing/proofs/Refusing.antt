@@ -6,11 +6,11 @@ use Prim.Native.Nat.{ℕ, _*_, _^_, _≤_}
 use native.Mathlib.Omega.{arith}
 use borrow.Author.Tests.{le-ltb, ltb-false}
 use lib.Dec.{ltb}
-use Rattle.arith.specs.Refusal.{refuse, outsideOf, badCount, badWidth}
-use Rattle.arith.proofs.Refusals.{refused-here, refused-later, or-later, within, passed}
-use Rattle.probe.specs.declared.Point.{Point}
+use Rattle.limits.specs.Refusal.{refuse, outsideOf, badCount, badWidth}
+use Rattle.limits.proofs.Refusals.{refused-here, refused-later, or-later, within, passed}
+use Rattle.probe_points.specs.declared.Point.{Point}
 use Rattle.bank.specs.declared.Sizes.{Sizes}
-use Rattle.simd.specs.Range.{reaches}
+use Rattle.row_lent.specs.Range.{reaches}
 use Rattle.bank.specs.Build.{pointsReach, bankRefusal}
 use Rattle.listing.specs.Listing.{countOf, widthOf, limitOf, pointsOf, targetOf, numbersRefusal}
 use Rattle.listing.specs.Steps.{InRange, reachRefusal}

@@ -6,20 +6,20 @@ use mathlib.Core.Option.{Option, none, some}
 use Prim.Native.Nat.{ℕ, _+_, _*_, _^_, _≤_, _<_}
 use lib.Dec.{ltb}
 use lib.ListN.{length, getD, take, drop}
-use Rattle.arith.specs.Lists.{countUp}
-use Rattle.arith.specs.Refusal.{refuse, badCount, badWidth, Outcome, refused, answer}
-use Rattle.probe.specs.declared.Point.{Point}
-use Rattle.atoms.specs.Bank.{Atom}
-use Rattle.atoms.specs.Stock.{bankOf}
-use Rattle.atoms.specs.Encoding.{padTo}
-use Rattle.pairs.specs.Index.{allGates, indexOf}
-use Rattle.simd.specs.Range.{reaches}
+use Rattle.arrays.specs.Lists.{countUp}
+use Rattle.limits.specs.Refusal.{refuse, badCount, badWidth, Outcome, refused, answer}
+use Rattle.probe_points.specs.declared.Point.{Point}
+use Rattle.bank_spec.specs.Push.{Atom}
+use Rattle.bank_spec.specs.Bank.{bankOf}
+use Rattle.bank_spec.specs.Encoding.{padTo}
+use Rattle.index_spec.specs.Index.{allGates, indexOf}
+use Rattle.row_lent.specs.Range.{reaches}
 use Rattle.bank.specs.Build.{pointsReach}
-use Rattle.parse.specs.declared.Parse.{Parse}
-use Rattle.parse.specs.Text.{readText}
-use Rattle.parse.specs.Reading.{Reads}
-use Rattle.print.specs.Text.{listingOf, refusedLine}
-use Rattle.print.specs.Printing.{Wrote, textMax}
+use Rattle.text_parse.specs.declared.Parse.{Parse}
+use Rattle.text_parse.specs.Text.{readText}
+use Rattle.text_parse.specs.Reading.{Reads}
+use Rattle.text_print.specs.Text.{listingOf, refusedLine}
+use Rattle.text_print.specs.Printing.{Wrote, textMax}
 use Rattle.listing.specs.declared.ListingAnswer.{ListingAnswer}
 use Rattle.listing.specs.declared.ListingAnswer.the-variants.{Written, Refused}
 

@@ -3,16 +3,16 @@ use mathlib.Core.Bool.{_||_}
 use mathlib.Core.List.{List, map}
 use Prim.Native.Nat.{ℕ, _+_, _*_, _^_, _≤_}
 use lib.ListN.{length, take, drop}
-use Rattle.simd.specs.Limits.{atomsMax}
-use Rattle.arith.specs.Refusal.{refuse}
-use Rattle.probe.specs.declared.Point.{Point}
-use Rattle.pairs.specs.Index.{Index, allGates, indexOf}
-use Rattle.atoms.specs.Bank.{Atom}
-use Rattle.atoms.specs.Encoding.{Arrays, padTo}
-use Rattle.simd.specs.Range.{reaches}
+use Rattle.limits.specs.Limits.{atomsMax}
+use Rattle.limits.specs.Refusal.{refuse}
+use Rattle.probe_points.specs.declared.Point.{Point}
+use Rattle.index_spec.specs.Index.{Index, allGates, indexOf}
+use Rattle.bank_spec.specs.Push.{Atom}
+use Rattle.bank_spec.specs.Encoding.{Arrays, padTo}
+use Rattle.row_lent.specs.Range.{reaches}
 use Rattle.bank.specs.Build.{pointsReach}
-use Rattle.turns.specs.Phases.{Fits}
-use Rattle.print.specs.Printing.{Shown, Holding}
+use Rattle.bank_unary.specs.Phases.{Fits}
+use Rattle.text_print.specs.Printing.{Shown, Holding}
 use Rattle.listing.specs.declared.inner.Counts.{Counts}
 use Rattle.listing.specs.Listing.{countOf, widthOf, limitOf, pointsOf, targetOf}
 

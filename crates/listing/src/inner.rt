@@ -1,21 +1,21 @@
 // Points and target out of the numbers of a text, what is refused of them, and the listing that they ask for.
 use bank::Sizes;
-use entry::ATOM_TOKENS;
-use pairs::PAIR_WORDS;
-use parts::COST_NUMBERS;
-use pool::WORK_WORDS;
-use probe::Point;
-use simd::ATOMS_MAX;
-use simd::ROW_WORDS;
+use bank_atom::ATOM_TOKENS;
+use bank_parts::COST_NUMBERS;
+use bank_push::WORK_WORDS;
+use index_spec::PAIR_WORDS;
+use limits::ATOMS_MAX;
+use probe_points::Point;
+use row_gates::ROW_WORDS;
 ghost use mathlib.Core.Path.{_≡_};
 ghost use Prim.Native.Nat.{_+_, _≤_};
 ghost use lib.ListN.{length};
-ghost use Rattle.arith.specs.Refusal.{outsideOf};
-ghost use Rattle.atoms.specs.Stock.{bankOf};
-ghost use Rattle.parts.specs.Parts.{arrays};
-ghost use Rattle.turns.specs.Phases.{Asked};
-ghost use Rattle.print.specs.Text.{listingOf};
-ghost use Rattle.print.specs.Printing.{Wrote, textMax};
+ghost use Rattle.limits.specs.Refusal.{outsideOf};
+ghost use Rattle.bank_spec.specs.Bank.{bankOf};
+ghost use Rattle.bank_parts.specs.Parts.{arrays};
+ghost use Rattle.bank_unary.specs.Phases.{Asked};
+ghost use Rattle.text_print.specs.Text.{listingOf};
+ghost use Rattle.text_print.specs.Printing.{Wrote, textMax};
 ghost use Rattle.listing.specs.Listing.{countOf, pointsOf, targetOf, numbersRefusal, textFor};
 ghost use Rattle.listing.specs.Steps.{pointFrom, InRange, reachRefusal, bankIndex, Lent, Both};
 
@@ -109,10 +109,10 @@ fn reach_refusal(numbers: [u64; 115]) -> u32
 pub fn refusal_of(numbers: [u64; 115]) -> u32
     ensures { λ r. ⌜ r ≡ numbersRefusal numbers ⌝ }
 {
-    if outside(numbers[0], 1, arith::MAX_VARS as u64) {
+    if outside(numbers[0], 1, limits::MAX_VARS as u64) {
         return 1;
     }
-    if outside(numbers[1], 1, arith::MAX_WIDTH as u64) {
+    if outside(numbers[1], 1, limits::MAX_WIDTH as u64) {
         return 2;
     }
     if LIMIT_MAX < numbers[2] {
@@ -149,7 +149,7 @@ fn build_both(
     requires { ⌜ Lent (arrays (now lengths) (now ops) (now operands) (now costs) (now rows)) (now work) (now pairs) (now listed) (now slots) ⌝ }
     ensures { λ r. ⌜ Both (now (lengths .exit)) (now (ops .exit)) (now (operands .exit)) (now (costs .exit)) (now (pairs .exit)) r (bankOf nv w points target) (bankIndex w limit (bankOf nv w points target)) ⌝ }
 {
-    let atoms = phases::inner::build(
+    let atoms = bank_phases::inner::build(
         lengths,
         ops,
         operands,
@@ -207,7 +207,7 @@ fn list_bank(
         points,
         target,
     );
-    print::inner::print_listing(
+    text_print::inner::print_listing(
         out,
         &lengths,
         &ops,

@@ -1,7 +1,7 @@
 // The listing: from a text that is read to the text that is written.
 pub mod inner;
 
-use parse::Parse;
+use text_parse::Parse;
 ghost use Rattle.listing.specs.Listing.{Listed};
 
 // How long a buffer has to be: no listing is longer.
@@ -20,14 +20,14 @@ pub fn write_listing(out: &mut [u8], p: Parse) -> ListingAnswer
     if out.len() < TEXT_MAX {
         return ListingAnswer::Refused(4);
     }
-    let input = parse::finish(p);
+    let input = text_parse::finish(p);
     if !input.fits {
-        return ListingAnswer::Written(print::inner::print_refusal(out, 9));
+        return ListingAnswer::Written(text_print::inner::print_refusal(out, 9));
     }
     let numbers = input.numbers;
     let number = inner::refusal_of(numbers);
     if number != 0 {
-        return ListingAnswer::Written(print::inner::print_refusal(out, number));
+        return ListingAnswer::Written(text_print::inner::print_refusal(out, number));
     }
     ListingAnswer::Written(inner::list_numbers(out, numbers))
 }

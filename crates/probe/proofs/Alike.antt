@@ -11,8 +11,8 @@ use Rattle.expr.specs.Tree.{Tree, written, within, fold}
 use Rattle.expr.specs.Tree.Tree.{constant, variable, inverted, negated, gated}
 use Rattle.expr.proofs.Machine.{and-left, and-right}
 use Rattle.expr.proofs.Trees.{whole-tree, formula-is-tree}
-use Rattle.evaluator.specs.Value.{valueAlg, valueOf}
-use Rattle.probe.specs.declared.Point.{Point}
+use Rattle.expr_eval.specs.Value.{valueAlg, valueOf}
+use Rattle.probe_points.specs.declared.Point.{Point}
 use Rattle.probe.specs.FormulaRow.{rowOf}
 
 module _ (nv w : ℕ) where

@@ -5,8 +5,8 @@ use Prim.Native.Nat.{ℕ, zero, suc, _<_}
 use native.Mathlib.Omega.{arith}
 use lib.ListN.{length, getD, length-map}
 use Rattle.expr.specs.declared.Token.{Token}
-use Rattle.evaluator.specs.Value.{valueOf}
-use Rattle.probe.specs.declared.Point.{Point}
+use Rattle.expr_eval.specs.Value.{valueOf}
+use Rattle.probe_points.specs.declared.Point.{Point}
 use Rattle.probe.specs.FormulaRow.{rowOf}
 
 pub length-rowOf : (w : ℕ) (points : List Point) (ts : List Token) → length (rowOf w points ts) ≡ length points

@@ -1,14 +1,14 @@
 -- The row of a formula at the sixteen points. Assumes nothing.
 use mathlib.Core.List.{List, map}
 use Prim.Native.Nat.{ℕ}
-use Rattle.arith.specs.Refusal.{refuse, badCount, badWidth}
-use Rattle.simd.specs.declared.RowAnswer.{RowAnswer}
-use Rattle.simd.specs.Gates.{rowOr}
+use Rattle.limits.specs.Refusal.{refuse, badCount, badWidth}
+use Rattle.row_gates.specs.declared.RowAnswer.{RowAnswer}
+use Rattle.row_gates.specs.Gates.{rowOr}
 use Rattle.expr.specs.declared.Token.{Token}
 use Rattle.expr.specs.Formula.{tokens}
 use Rattle.expr.specs.Answers.{tooShort, notFormula}
-use Rattle.evaluator.specs.Value.{valueOf}
-use Rattle.probe.specs.declared.Point.{Point}
+use Rattle.expr_eval.specs.Value.{valueOf}
+use Rattle.probe_points.specs.declared.Point.{Point}
 
 -- 01's row of a formula: its value at each point. 01, Points: places past the variable count are ignored (`row-alike` of proofs/Alike)
 unfoldable pub rowOf : ℕ → List Point → List Token → List ℕ

@@ -1,4 +1,2 @@
 -- What the contracts of this crate, and the definitions above it, cite.
-pub mod Points
-pub mod Fingerprint
 pub mod FormulaRow

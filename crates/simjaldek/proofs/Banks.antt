@@ -3,13 +3,13 @@ use mathlib.Core.Path.{_≡_, refl, ap, _∙_, subst}
 use mathlib.Core.List.{List}
 use Prim.Native.Nat.{ℕ, _<_}
 use native.Mathlib.Omega.{arith}
-use Rattle.probe.specs.declared.Point.{Point}
-use Rattle.atoms.specs.Encoding.{Arrays}
+use Rattle.probe_points.specs.declared.Point.{Point}
+use Rattle.bank_spec.specs.Encoding.{Arrays}
 use Rattle.bank.specs.declared.BankAnswer.{BankAnswer}
 use Rattle.bank.specs.Build.{BankBuilt, bankSays}
-use Rattle.abi.specs.declared.Reply.{Reply}
-use Rattle.abi.specs.Slices.{rowIn, pointsIn, pointsRowRefusal}
-use Rattle.abi.specs.Reply.{refusedReply, numberReply}
+use Rattle.simjaldek_abi.specs.declared.Reply.{Reply}
+use Rattle.simjaldek_abi.specs.Slices.{rowIn, pointsIn, pointsRowRefusal}
+use Rattle.simjaldek_abi.specs.Reply.{refusedReply, numberReply}
 use Rattle.simjaldek.specs.Beside.{BankReplied}
 
 -- a refusal was found before the call

@@ -4,12 +4,12 @@ use mathlib.Core.List.{List}
 use Prim.Native.Nat.{ℕ, _<_, _^_}
 use native.Mathlib.Omega.{arith}
 use lib.ListN.{length}
-use Rattle.parse.specs.declared.Parse.{Parse}
-use Rattle.parse.specs.Reading.{Reads}
+use Rattle.text_parse.specs.declared.Parse.{Parse}
+use Rattle.text_parse.specs.Reading.{Reads}
 use Rattle.listing.specs.declared.ListingAnswer.{ListingAnswer}
 use Rattle.listing.specs.Listing.{listingSays, Listed}
-use Rattle.abi.specs.declared.TextReply.{TextReply}
-use Rattle.abi.specs.Reply.{textReply}
+use Rattle.simjaldek_abi.specs.declared.TextReply.{TextReply}
+use Rattle.simjaldek_abi.specs.Reply.{textReply}
 use Rattle.simjaldek.specs.Beside.{Texted}
 
 -- the answer by numbers

@@ -3,21 +3,21 @@ use mathlib.Core.Path.{_≡_}
 use mathlib.Core.List.{List}
 use Prim.Native.Nat.{ℕ, _+_, _≤_, _<_, _^_}
 use lib.ListN.{length}
-use Rattle.arith.specs.Refusal.{refused, answer}
-use Rattle.probe.specs.declared.Point.{Point}
-use Rattle.atoms.specs.Encoding as bank
+use Rattle.limits.specs.Refusal.{refused, answer}
+use Rattle.probe_points.specs.declared.Point.{Point}
+use Rattle.bank_spec.specs.Encoding as bank
 use Rattle.bank.specs.declared.BankAnswer.{BankAnswer}
 use Rattle.bank.specs.Build.{BankBuilt, bankSays}
 use Rattle.index.specs.declared.IndexAnswer.{IndexAnswer}
 use Rattle.index.specs.Build.{Arrays, IndexBuilt, indexSays}
-use Rattle.candidates.specs.declared.CandidatesAnswer.{CandidatesAnswer}
-use Rattle.candidates.specs.Candidates.{Collected, candidatesSay}
-use Rattle.print.specs.Printing.{Wrote, textMax}
+use Rattle.search_candidates.specs.declared.CandidatesAnswer.{CandidatesAnswer}
+use Rattle.search_candidates.specs.Candidates.{Collected, candidatesSay}
+use Rattle.text_print.specs.Printing.{Wrote, textMax}
 use Rattle.listing.specs.Listing.{listing}
-use Rattle.abi.specs.declared.Reply.{Reply}
-use Rattle.abi.specs.declared.TextReply.{TextReply}
-use Rattle.abi.specs.Slices.{rowIn, pointsIn, pointsRowRefusal}
-use Rattle.abi.specs.Reply.{refusedReply, optionReply, numberReply, indexReply, textReply}
+use Rattle.simjaldek_abi.specs.declared.Reply.{Reply}
+use Rattle.simjaldek_abi.specs.declared.TextReply.{TextReply}
+use Rattle.simjaldek_abi.specs.Slices.{rowIn, pointsIn, pointsRowRefusal}
+use Rattle.simjaldek_abi.specs.Reply.{refusedReply, optionReply, numberReply, indexReply, textReply}
 
 -- 01, Agreed: the result and the final contents of every array: an answer of `build_index` with its own promise, and the reply is that answer by numbers
 pub record Indexed (w count : ℕ) (rows : List ℕ) (L : ℕ) (old new : Arrays) (r : Reply) : Type 0 where

@@ -1,39 +1,39 @@
 // The static library for Rust callers: each public call under a name of its own, over numbers and slices.
 // A refusal is a number of 01's table, 0 for none; a row is the first sixteen words of its slice, and a shorter slice is refused 4.
-use abi::CostReply;
-use abi::DrawReply;
-use abi::PointsReply;
-use abi::Reply;
-use abi::RowReply;
-use abi::TextReply;
-use abi::TokenReply;
-use abi::WordReply;
-use abi::inner::replies;
-use abi::inner::slices;
 use expr_cost::Cost;
 use listing::ListingAnswer;
+use simjaldek_abi::CostReply;
+use simjaldek_abi::DrawReply;
+use simjaldek_abi::PointsReply;
+use simjaldek_abi::Reply;
+use simjaldek_abi::RowReply;
+use simjaldek_abi::TextReply;
+use simjaldek_abi::TokenReply;
+use simjaldek_abi::WordReply;
+use simjaldek_abi::inner::replies;
+use simjaldek_abi::inner::slices;
 ghost use mathlib.Core.Path.{_≡_};
 ghost use Prim.Native.Nat.{_+_, _-_, _*_, _%_, _^_};
 ghost use Rattle.arith.specs.Word.{modulus, notOf, negOf, subOf};
 ghost use Rattle.arith.specs.Cong.{Inverse};
-ghost use Rattle.arith.specs.Refusal.{refuse, outcome};
-ghost use Rattle.simd.specs.Gates.{gateAt, applied, residual, matched};
+ghost use Rattle.limits.specs.Refusal.{refuse, outcome};
+ghost use Rattle.row_gates.specs.Gates.{gateAt, applied, residual, matched};
 ghost use Rattle.expr.specs.Formula.{tokenAt, tokens, isFormula};
-ghost use Rattle.evaluator.specs.Answers.{evaluated};
+ghost use Rattle.expr_eval.specs.Answers.{evaluated};
 ghost use Rattle.expr_cost.specs.Answers.{costed};
 ghost use Rattle.expr_cost.specs.Cost.{isBetter};
-ghost use Rattle.probe.specs.Points.{drawn, madePoints};
+ghost use Rattle.probe_points.specs.Points.{drawn, madePoints};
 ghost use Rattle.probe.specs.FormulaRow.{probed};
-ghost use Rattle.probe.specs.Fingerprint.{fingerprintOf};
-ghost use Rattle.parts.specs.Parts.{arrays};
-ghost use Rattle.lookup.specs.Lookup.{found, handRefusal};
+ghost use Rattle.row_fingerprint.specs.Fingerprint.{fingerprintOf};
+ghost use Rattle.bank_parts.specs.Parts.{arrays};
+ghost use Rattle.bank_lookup.specs.Lookup.{found, handRefusal};
 ghost use Rattle.index.specs.Build.{arraysOf};
-ghost use Rattle.search.specs.Answer.{product};
-ghost use Rattle.abi.specs.Slices.{rowIn, shortRow, rowRefusal, pointsIn, pointsRefusal, twoShort, threeShort, gateRefusal};
-ghost use Rattle.abi.specs.Reply.{orElse, rowOrElse, wordReply, costReply, pointsReply, drawReply, costFrom, markOf, matchReply, optionReply, numberReply, productReply, tokenReply};
+ghost use Rattle.search_product.specs.Answer.{product};
+ghost use Rattle.simjaldek_abi.specs.Slices.{rowIn, shortRow, rowRefusal, pointsIn, pointsRefusal, twoShort, threeShort, gateRefusal};
+ghost use Rattle.simjaldek_abi.specs.Reply.{orElse, rowOrElse, wordReply, costReply, pointsReply, drawReply, costFrom, markOf, matchReply, optionReply, numberReply, productReply, tokenReply};
 ghost use Rattle.simjaldek.specs.Beside.{Indexed, Listed, BankReplied, Texted};
 
-// `search::product_search`: kind 0 nothing, 1 the atoms a and b, 2 the atom a and the pair b. Refuses 2, 4, 5, 7, 8.
+// `search_product::product_search`: kind 0 nothing, 1 the atoms a and b, 2 the atom a and the pair b. Refuses 2, 4, 5, 7, 8.
 #[no_mangle]
 pub extern "C" fn simjaldek_product_search(
     w: u32,
@@ -50,11 +50,11 @@ pub extern "C" fn simjaldek_product_search(
     if refusal != 0 {
         return replies::refused(refusal);
     }
-    let row = simd::inner::load_row(target, 0);
-    replies::of_product(search::product_search(w, count, atoms, pairs, listed, slots, row))
+    let row = row_lent::inner::load_row(target, 0);
+    replies::of_product(search_product::product_search(w, count, atoms, pairs, listed, slots, row))
 }
 
-// `lookup::find_row`: kind 1 the slot a, 0 none. Refuses 2, 4, 5, 7.
+// `bank_lookup::find_row`: kind 1 the slot a, 0 none. Refuses 2, 4, 5, 7.
 #[no_mangle]
 pub extern "C" fn simjaldek_find_row(w: u32, count: usize, rows: &[u64], row: &[u64]) -> Reply
     ensures { λ r. ⌜ r ≡ optionReply (orElse (rowRefusal w (now (row .entry))) (found w count (now (rows .entry)) (rowIn (now (row .entry))))) ⌝ }
@@ -63,8 +63,8 @@ pub extern "C" fn simjaldek_find_row(w: u32, count: usize, rows: &[u64], row: &[
     if refusal != 0 {
         return replies::refused(refusal);
     }
-    let asked = simd::inner::load_row(row, 0);
-    replies::of_slot(lookup::find_row(w, count, rows, asked))
+    let asked = row_lent::inner::load_row(row, 0);
+    replies::of_slot(bank_lookup::find_row(w, count, rows, asked))
 }
 
 // `index::build_index`: a pairs, and b 1 where the build was cut. Refuses 2, 3, 4, 7.
@@ -85,7 +85,7 @@ pub extern "C" fn simjaldek_build_index(
     replies::of_index(built)
 }
 
-// `candidates::collect_mul_probe0_candidates`: kind 1 with a candidates in the list, 0 "not used". Refuses 2, 4, 5, 7, 8.
+// `search_candidates::collect_mul_probe0_candidates`: kind 1 with a candidates in the list, 0 "not used". Refuses 2, 4, 5, 7, 8.
 #[no_mangle]
 pub extern "C" fn simjaldek_collect_mul_probe0_candidates(
     w: u32,
@@ -98,7 +98,15 @@ pub extern "C" fn simjaldek_collect_mul_probe0_candidates(
 ) -> Reply
     ensures { λ r. ⌜ Listed w pairs (now (listed .entry)) (now (slots .entry)) p t (now (list .entry)) (now (list .exit)) r ⌝ }
 {
-    let collected = candidates::collect_mul_probe0_candidates(w, pairs, listed, slots, p, t, list);
+    let collected = search_candidates::collect_mul_probe0_candidates(
+        w,
+        pairs,
+        listed,
+        slots,
+        p,
+        t,
+        list,
+    );
     replies::of_candidates(collected)
 }
 
@@ -123,7 +131,7 @@ pub extern "C" fn simjaldek_build_bank(
         return replies::refused(refusal);
     }
     let at = slices::points_of(points);
-    let row = simd::inner::load_row(target, 0);
+    let row = row_lent::inner::load_row(target, 0);
     let built = bank::build_bank(lengths, ops, operands, costs, rows, work, nv, w, at, row);
     replies::of_bank(built)
 }
@@ -144,7 +152,7 @@ pub extern "C" fn simjaldek_is_formula(nv: u32, count: usize, ops: &[u8], operan
     replies::mark_of(expr::is_formula(nv, count, ops, operands))
 }
 
-// `evaluator::eval`. Refuses 1, 2, 4, 6.
+// `expr_eval::eval`. Refuses 1, 2, 4, 6.
 #[no_mangle]
 pub extern "C" fn simjaldek_eval(
     nv: u32,
@@ -156,7 +164,7 @@ pub extern "C" fn simjaldek_eval(
 ) -> WordReply
     ensures { λ r. ⌜ r ≡ wordReply (evaluated nv w count (now (ops .entry)) (now (operands .entry)) (now (words .entry))) ⌝ }
 {
-    replies::of_value(evaluator::eval(nv, w, count, ops, operands, words))
+    replies::of_value(expr_eval::eval(nv, w, count, ops, operands, words))
 }
 
 // `expr_cost::compute_cost`. Refuses 1, 4, 6.
@@ -178,12 +186,12 @@ pub extern "C" fn simjaldek_compute_cost(
     }
 }
 
-// `probe::make_probe_points`. Refuses 1, 2.
+// `probe_points::make_probe_points`. Refuses 1, 2.
 #[no_mangle]
 pub extern "C" fn simjaldek_make_probe_points(nv: u32, w: u32) -> PointsReply
     ensures { λ r. ⌜ r ≡ pointsReply (madePoints nv w) ⌝ }
 {
-    let x = probe::make_probe_points(nv, w);
+    let x = probe_points::make_probe_points(nv, w);
     let made = x.points;
     let points = replies::of_points(made);
     PointsReply {
@@ -212,21 +220,21 @@ pub extern "C" fn simjaldek_probe(
     replies::of_row(probe::probe(nv, w, at, count, ops, operands))
 }
 
-// `probe::fingerprint`. Refuses 4.
+// `row_fingerprint::fingerprint`. Refuses 4.
 #[no_mangle]
 pub extern "C" fn simjaldek_fingerprint(row: &[u64]) -> WordReply
     ensures { λ r. ⌜ r ≡ wordReply (outcome (refuse (shortRow (now (row .entry))) 4 0) (fingerprintOf (rowIn (now (row .entry))))) ⌝ }
 {
-    if row.len() < simd::ROW_WORDS {
+    if row.len() < row_gates::ROW_WORDS {
         return WordReply {
             refusal: 4,
             word: 0,
         };
     }
-    let words = simd::inner::load_row(row, 0);
+    let words = row_lent::inner::load_row(row, 0);
     WordReply {
         refusal: 0,
-        word: probe::fingerprint(words),
+        word: row_fingerprint::fingerprint(words),
     }
 }
 
@@ -302,12 +310,12 @@ pub extern "C" fn simjaldek_mod_inverse_odd(m: u64, k: u32) -> u64
     arith::mod_inverse_odd(m, k)
 }
 
-// `probe::splitmix64`.
+// `probe_points::splitmix64`.
 #[no_mangle]
 pub extern "C" fn simjaldek_splitmix64(state: u64) -> DrawReply
     ensures { λ r. ⌜ r ≡ drawReply (drawn state) ⌝ }
 {
-    let x = probe::splitmix64(state);
+    let x = probe_points::splitmix64(state);
     DrawReply {
         state: x.state,
         word: x.word,
@@ -339,7 +347,7 @@ pub extern "C" fn simjaldek_is_better(
     replies::mark_of(cost.is_better(other))
 }
 
-// `simd::gate_apply`, with the gate's number. Refuses 2, 4, and 6 for a number above 4.
+// `row_gates::gate_apply`, with the gate's number. Refuses 2, 4, and 6 for a number above 4.
 #[no_mangle]
 pub extern "C" fn simjaldek_gate_apply(a: &[u64], b: &[u64], g: u32, w: u32) -> RowReply
     ensures { λ r. ⌜ r ≡ rowOrElse (gateRefusal w (twoShort (now (a .entry)) (now (b .entry))) g) (applied (gateAt g) w (rowIn (now (a .entry))) (rowIn (now (b .entry)))) ⌝ }
@@ -347,7 +355,7 @@ pub extern "C" fn simjaldek_gate_apply(a: &[u64], b: &[u64], g: u32, w: u32) -> 
     replies::of_gate(false, a, b, g, w)
 }
 
-// `simd::gate_residual`, with the gate's number. Refuses 2, 4, and 6 for a number above 4.
+// `row_gates::gate_residual`, with the gate's number. Refuses 2, 4, and 6 for a number above 4.
 #[no_mangle]
 pub extern "C" fn simjaldek_gate_residual(target: &[u64], a: &[u64], g: u32, w: u32) -> RowReply
     ensures { λ r. ⌜ r ≡ rowOrElse (gateRefusal w (twoShort (now (target .entry)) (now (a .entry))) g) (residual (gateAt g) w (rowIn (now (target .entry))) (rowIn (now (a .entry)))) ⌝ }
@@ -355,7 +363,7 @@ pub extern "C" fn simjaldek_gate_residual(target: &[u64], a: &[u64], g: u32, w: 
     replies::of_gate(true, target, a, g, w)
 }
 
-// `simd::gate_matches`, with the gate's number: kind 1 the same, 0 different. Refuses 2, 4, and 6 for a number above 4.
+// `row_gates::gate_matches`, with the gate's number: kind 1 the same, 0 different. Refuses 2, 4, and 6 for a number above 4.
 #[no_mangle]
 pub extern "C" fn simjaldek_gate_matches(
     a: &[u64],
@@ -370,21 +378,21 @@ pub extern "C" fn simjaldek_gate_matches(
     if refusal != 0 {
         return replies::refused(refusal);
     }
-    let left = simd::inner::load_row(a, 0);
-    let right = simd::inner::load_row(b, 0);
-    let whole = simd::inner::load_row(target, 0);
-    replies::of_match(simd::gate_matches(left, right, whole, simd::inner::gate_at(g), w))
+    let left = row_lent::inner::load_row(a, 0);
+    let right = row_lent::inner::load_row(b, 0);
+    let whole = row_lent::inner::load_row(target, 0);
+    replies::of_match(row_gates::gate_matches(left, right, whole, row_gates::inner::gate_at(g), w))
 }
 
-// Where `lookup::atom_row` begins: the place in words of the first of the slot's sixteen. Refuses 4, 7.
+// Where `bank_lookup::atom_row` begins: the place in words of the first of the slot's sixteen. Refuses 4, 7.
 #[no_mangle]
 pub extern "C" fn simjaldek_atom_row(rows: &[u64], count: usize, slot: u32) -> Reply
     ensures { λ r. ⌜ r ≡ numberReply (outcome (handRefusal count (now (rows .entry)) slot) (16 * slot)) ⌝ }
 {
-    if rows.len() / simd::ROW_WORDS < count {
+    if rows.len() / row_gates::ROW_WORDS < count {
         return replies::refused(4);
     }
-    if simd::ATOMS_MAX < count {
+    if limits::ATOMS_MAX < count {
         return replies::refused(7);
     }
     if count <= slot as usize {
@@ -398,7 +406,7 @@ pub extern "C" fn simjaldek_atom_row(rows: &[u64], count: usize, slot: u32) -> R
 pub extern "C" fn simjaldek_write_listing(out: &mut [u8], text: &[u8]) -> TextReply
     ensures { λ r. ⌜ Texted (now (text .entry)) (now (out .entry)) (now (out .exit)) r ⌝ }
 {
-    let read = parse::feed(parse::begin(), text);
+    let read = text_parse::feed(text_parse::begin(), text);
     match listing::write_listing(out, read) {
         ListingAnswer::Written(length) => TextReply { refusal: 0, length },
         ListingAnswer::Refused(refusal) => TextReply { refusal, length: 0 },

@@ -1,4 +1,4 @@
-//! The exported functions of crates/simjaldek/src/lib.rt and the structs of crates/abi/src/lib.rt as they are: declarations only, in
+//! The exported functions of crates/simjaldek/src/lib.rt and the structs of crates/simjaldek_abi/src/lib.rt as they are: declarations only, in
 //! the order of these files.
 //!
 //! A slice goes as its pointer and its length. tests/declarations.rs compares these lines with the Rattle sources.

@@ -1,7 +1,7 @@
 //! src/ffi.rs declares what the Rattle sources export: the same functions, parameters, answers and structs, in the same order.
 
 const FUNCTIONS: &str = include_str!("../../../crates/simjaldek/src/lib.rt");
-const STRUCTS: &str = include_str!("../../../crates/abi/src/lib.rt");
+const STRUCTS: &str = include_str!("../../../crates/simjaldek_abi/src/lib.rt");
 const DECLARED: &str = include_str!("../src/ffi.rs");
 
 /// What stands between `open` and `close`, without line ends and indents, and the text after it.

@@ -2,7 +2,7 @@
 use mathlib.Core.Path.{sym, _∙_}
 use native.Mathlib.Omega.{arith}
 use borrow.Author.Needs.{needs}
-use Rattle.parts.specs.Parts.{arrays}
+use Rattle.bank_parts.specs.Parts.{arrays}
 use Rattle.bank.proofs.Answering.{build-asked, build-fits, built-few, built-refused, built-built}
 use Rattle.bank.proofs.build_bank.Statement.{statement}
 use Rattle.bank.proofs.build_bank.Tie as tie

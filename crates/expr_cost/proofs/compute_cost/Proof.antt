@@ -2,7 +2,7 @@
 use mathlib.Core.Path.{sym, ap, _∙_}
 use mathlib.Core.Bool.{not}
 use borrow.Author.Needs.{needs}
-use Rattle.arith.specs.Refusal.{refuse}
+use Rattle.limits.specs.Refusal.{refuse}
 use Rattle.expr.specs.Formula.{tokens}
 use Rattle.expr.specs.Answers.{tooShort, notFormula}
 use Rattle.expr_cost.specs.declared.inner.SpanCost.{SpanCost}

@@ -3,9 +3,9 @@ use mathlib.Core.Path.{refl, sym, ap, _∙_}
 use mathlib.Core.List.{List}
 use Prim.Native.Nat.{ℕ}
 use borrow.Author.Needs.{needs}
-use Rattle.arith.proofs.Refusals.{within, refused-here, refused-later}
+use Rattle.limits.proofs.Refusals.{within, refused-here, refused-later}
 use Rattle.expr.specs.Formula.{tokens}
-use Rattle.simd.specs.Gates.{rowOr}
+use Rattle.row_gates.specs.Gates.{rowOr}
 use Rattle.probe.specs.FormulaRow.{rowOf}
 use Rattle.expr.proofs.Machine.{formula-more}
 use mathlib.Core.Bool.{not}

@@ -4,7 +4,7 @@ use Prim.Native.Nat.{ℕ, _-_, _≤_}
 use native.Mathlib.Omega.{arith}
 use borrow.Author.Needs.{needs}
 use lib.ListN.{length, length-set, getD}
-use Rattle.arith.proofs.Fill.{Filled, filled-more, filled-all}
+use Rattle.arrays.proofs.Fill.{Filled, filled-more, filled-all}
 use Rattle.expr.specs.Formula.{tokens}
 use Rattle.probe.specs.FormulaRow.{rowOf}
 use Rattle.probe.proofs.FormulaRows.{length-rowOf, getD-rowOf}

@@ -2,9 +2,9 @@
 use mathlib.Core.Path.{refl, sym, ap, _∙_}
 use Prim.Native.Nat.{ℕ, _*_}
 use borrow.Author.Tests.{lt-ltb, le-ltb, le-leb, lt-leb}
-use Rattle.arith.specs.Refusal.{outcome}
-use Rattle.arith.proofs.Refusals.{refused-here, refused-later, or-here, or-later}
-use Rattle.abi.specs.Reply.{numberReply}
+use Rattle.limits.specs.Refusal.{outcome}
+use Rattle.limits.proofs.Refusals.{refused-here, refused-later, or-here, or-later}
+use Rattle.simjaldek_abi.specs.Reply.{numberReply}
 use borrow.Author.Needs.{needs}
 use Rattle.simjaldek.proofs.simjaldek_atom_row.Statement.{statement}
 use Rattle.simjaldek.proofs.simjaldek_atom_row.Tie as tie

@@ -1,7 +1,7 @@
 -- `simjaldek_build_bank` meets its contract: refused before the call, or the reply of what the call answers. Assumes nothing.
 use mathlib.Core.Path.{sym, _∙_}
-use Rattle.parts.specs.Parts.{arrays}
-use Rattle.abi.proofs.Early.{both-long}
+use Rattle.bank_parts.specs.Parts.{arrays}
+use Rattle.simjaldek_abi.proofs.Early.{both-long}
 use Rattle.simjaldek.proofs.Banks.{bank-early, bank-built}
 use native.Mathlib.Omega.{arith}
 use borrow.Author.Needs.{needs}

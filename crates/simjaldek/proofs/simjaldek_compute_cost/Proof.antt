@@ -1,6 +1,6 @@
 -- `simjaldek_compute_cost` meets its contract: the fields of what the call answers. Assumes nothing.
 use mathlib.Core.Path.{ap}
-use Rattle.abi.specs.Reply.{costReply}
+use Rattle.simjaldek_abi.specs.Reply.{costReply}
 use borrow.Author.Needs.{needs}
 use Rattle.simjaldek.proofs.simjaldek_compute_cost.Statement.{statement}
 use Rattle.simjaldek.proofs.simjaldek_compute_cost.Tie as tie

@@ -3,11 +3,11 @@ use mathlib.Core.Path.{sym, ap, _∙_}
 use mathlib.Core.List.{List}
 use mathlib.Core.Option.{Option}
 use Prim.Native.Nat.{ℕ}
-use Rattle.arith.specs.Refusal.{Outcome}
-use Rattle.lookup.specs.Lookup.{found}
-use Rattle.abi.specs.Slices.{rowIn, rowRefusal}
-use Rattle.abi.specs.Reply.{optionReply}
-use Rattle.abi.proofs.Early.{told-early, told-call, row-long}
+use Rattle.limits.specs.Refusal.{Outcome}
+use Rattle.bank_lookup.specs.Lookup.{found}
+use Rattle.simjaldek_abi.specs.Slices.{rowIn, rowRefusal}
+use Rattle.simjaldek_abi.specs.Reply.{optionReply}
+use Rattle.simjaldek_abi.proofs.Early.{told-early, told-call, row-long}
 use native.Mathlib.Omega.{arith}
 use borrow.Author.Needs.{needs}
 use Rattle.simjaldek.proofs.simjaldek_find_row.Statement.{statement}

@@ -2,11 +2,11 @@
 use mathlib.Core.Path.{refl, sym, ap, _∙_}
 use Prim.Native.Nat.{ℕ}
 use borrow.Author.Tests.{lt-ltb, le-ltb}
-use Rattle.arith.specs.Refusal.{answer, outcome}
-use Rattle.arith.proofs.Refusals.{refused-here, refused-later}
-use Rattle.probe.specs.Fingerprint.{fingerprintOf}
-use Rattle.abi.specs.Slices.{rowIn}
-use Rattle.abi.specs.Reply.{wordReply}
+use Rattle.limits.specs.Refusal.{answer, outcome}
+use Rattle.limits.proofs.Refusals.{refused-here, refused-later}
+use Rattle.row_fingerprint.specs.Fingerprint.{fingerprintOf}
+use Rattle.simjaldek_abi.specs.Slices.{rowIn}
+use Rattle.simjaldek_abi.specs.Reply.{wordReply}
 use borrow.Author.Needs.{needs}
 use Rattle.simjaldek.proofs.simjaldek_fingerprint.Statement.{statement}
 use Rattle.simjaldek.proofs.simjaldek_fingerprint.Tie as tie

@@ -2,11 +2,11 @@
 use mathlib.Core.Path.{sym, ap, _∙_}
 use mathlib.Core.List.{List}
 use Prim.Native.Nat.{ℕ}
-use Rattle.simd.specs.declared.Gate.{Gate}
-use Rattle.simd.specs.Gates.{gateAt, matched}
-use Rattle.abi.specs.Slices.{rowIn, threeShort, gateRefusal}
-use Rattle.abi.specs.Reply.{matchReply}
-use Rattle.abi.proofs.Early.{told-early, told-call, gate-numbered, gate-long, three-long, same3}
+use Rattle.row_gates.specs.declared.Gate.{Gate}
+use Rattle.row_gates.specs.Gates.{gateAt, matched}
+use Rattle.simjaldek_abi.specs.Slices.{rowIn, threeShort, gateRefusal}
+use Rattle.simjaldek_abi.specs.Reply.{matchReply}
+use Rattle.simjaldek_abi.proofs.Early.{told-early, told-call, gate-numbered, gate-long, three-long, same3}
 use native.Mathlib.Omega.{arith}
 use borrow.Author.Needs.{needs}
 use Rattle.simjaldek.proofs.simjaldek_gate_matches.Statement.{statement}

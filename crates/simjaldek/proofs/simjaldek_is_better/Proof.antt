@@ -1,6 +1,6 @@
 -- `simjaldek_is_better` meets its contract: the mark of what the call answers. Assumes nothing.
 use mathlib.Core.Path.{ap, _∙_}
-use Rattle.abi.specs.Reply.{markOf}
+use Rattle.simjaldek_abi.specs.Reply.{markOf}
 use borrow.Author.Needs.{needs}
 use Rattle.simjaldek.proofs.simjaldek_is_better.Statement.{statement}
 use Rattle.simjaldek.proofs.simjaldek_is_better.Tie as tie

@@ -1,6 +1,6 @@
 -- `simjaldek_is_formula` meets its contract: the mark of what the call answers. Assumes nothing.
 use mathlib.Core.Path.{ap, _∙_}
-use Rattle.abi.specs.Reply.{markOf}
+use Rattle.simjaldek_abi.specs.Reply.{markOf}
 use borrow.Author.Needs.{needs}
 use Rattle.simjaldek.proofs.simjaldek_is_formula.Statement.{statement}
 use Rattle.simjaldek.proofs.simjaldek_is_formula.Tie as tie

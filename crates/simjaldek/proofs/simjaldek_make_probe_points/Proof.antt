@@ -2,9 +2,9 @@
 use mathlib.Core.Path.{ap, _∙_}
 use mathlib.Core.List.{List}
 use Prim.Native.Nat.{ℕ}
-use Rattle.abi.specs.declared.PointWords.{PointWords}
-use Rattle.abi.specs.declared.PointsReply.{PointsReply}
-use Rattle.abi.specs.Reply.{pointsReply}
+use Rattle.simjaldek_abi.specs.declared.PointWords.{PointWords}
+use Rattle.simjaldek_abi.specs.declared.PointsReply.{PointsReply}
+use Rattle.simjaldek_abi.specs.Reply.{pointsReply}
 use borrow.Author.Needs.{needs}
 use Rattle.simjaldek.proofs.simjaldek_make_probe_points.Statement.{statement}
 use Rattle.simjaldek.proofs.simjaldek_make_probe_points.Tie as tie

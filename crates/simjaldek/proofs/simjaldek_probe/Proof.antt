@@ -1,11 +1,11 @@
 -- `simjaldek_probe` meets its contract: refused before the call, or what the call answers. Assumes nothing.
 use mathlib.Core.Path.{sym, ap, _∙_}
 use mathlib.Core.List.{List}
-use Rattle.simd.specs.declared.RowAnswer.{RowAnswer}
-use Rattle.probe.specs.declared.Point.{Point}
+use Rattle.row_gates.specs.declared.RowAnswer.{RowAnswer}
+use Rattle.probe_points.specs.declared.Point.{Point}
 use Rattle.probe.specs.FormulaRow.{probed}
-use Rattle.abi.specs.Slices.{pointsIn, pointsRefusal}
-use Rattle.abi.proofs.Early.{points-long, row-early, row-call}
+use Rattle.simjaldek_abi.specs.Slices.{pointsIn, pointsRefusal}
+use Rattle.simjaldek_abi.proofs.Early.{points-long, row-early, row-call}
 use native.Mathlib.Omega.{arith}
 use borrow.Author.Needs.{needs}
 use Rattle.simjaldek.proofs.simjaldek_probe.Statement.{statement}

@@ -3,12 +3,12 @@ use mathlib.Core.Path.{sym, ap, _∙_}
 use mathlib.Core.List.{List}
 use mathlib.Core.Option.{Option}
 use Prim.Native.Nat.{ℕ}
-use Rattle.arith.specs.Refusal.{Outcome}
-use Rattle.product.specs.Trying.{Product}
-use Rattle.search.specs.Answer.{product}
-use Rattle.abi.specs.Slices.{rowIn, rowRefusal}
-use Rattle.abi.specs.Reply.{productReply}
-use Rattle.abi.proofs.Early.{told-early, told-call, row-long}
+use Rattle.limits.specs.Refusal.{Outcome}
+use Rattle.search_product_stages.specs.Trying.{Product}
+use Rattle.search_product.specs.Answer.{product}
+use Rattle.simjaldek_abi.specs.Slices.{rowIn, rowRefusal}
+use Rattle.simjaldek_abi.specs.Reply.{productReply}
+use Rattle.simjaldek_abi.proofs.Early.{told-early, told-call, row-long}
 use native.Mathlib.Omega.{arith}
 use borrow.Author.Needs.{needs}
 use Rattle.simjaldek.proofs.simjaldek_product_search.Statement.{statement}

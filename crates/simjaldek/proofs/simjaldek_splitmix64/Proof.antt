@@ -1,6 +1,6 @@
 -- `simjaldek_splitmix64` meets its contract: the fields of what the call answers. Assumes nothing.
 use mathlib.Core.Path.{ap}
-use Rattle.abi.specs.Reply.{drawReply}
+use Rattle.simjaldek_abi.specs.Reply.{drawReply}
 use borrow.Author.Needs.{needs}
 use Rattle.simjaldek.proofs.simjaldek_splitmix64.Statement.{statement}
 use Rattle.simjaldek.proofs.simjaldek_splitmix64.Tie as tie

@@ -1,7 +1,7 @@
 -- `simjaldek_token_at` meets its contract: the reply of the token that the call answers. Assumes nothing.
 use mathlib.Core.Path.{ap, _∙_}
 use Rattle.expr.specs.declared.Token.{Token}
-use Rattle.abi.specs.Reply.{tokenReply}
+use Rattle.simjaldek_abi.specs.Reply.{tokenReply}
 use borrow.Author.Needs.{needs}
 use Rattle.simjaldek.proofs.simjaldek_token_at.Statement.{statement}
 use Rattle.simjaldek.proofs.simjaldek_token_at.Tie as tie

@@ -1,7 +1,7 @@
 -- `bank::inner::bank_refusal` meets its contract: the conditions in the table's order. Assumes nothing.
 use mathlib.Core.Path.{refl, sym, _∙_}
 use borrow.Author.Needs.{needs}
-use Rattle.arith.proofs.Refusals.{refused-here, refused-later, or-here, or-later, within}
+use Rattle.limits.proofs.Refusals.{refused-here, refused-later, or-here, or-later, within}
 use Rattle.bank.proofs.inner.bank_refusal.Statement.{statement}
 use Rattle.bank.proofs.inner.bank_refusal.Tie as tie
 

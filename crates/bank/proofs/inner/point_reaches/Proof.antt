@@ -6,9 +6,9 @@ use borrow.Author.Needs.{needs}
 use lib.ListN.{length, getD, take, drop}
 use lib.Seq.{length-take-le, getD-take}
 use Rattle.arith.specs.Word.{modulus}
-use Rattle.simd.specs.Range.{reaches}
+use Rattle.row_lent.specs.Range.{reaches}
 use Rattle.arith.proofs.Remainders.{mask-lt, mask-le}
-use Rattle.simd.proofs.Reaching.{reaches-here, reaches-later, reaches-none}
+use Rattle.row_lent.proofs.Reaching.{reaches-here, reaches-later, reaches-none}
 use Rattle.bank.proofs.inner.point_reaches.Statement.{statement}
 use Rattle.bank.proofs.inner.point_reaches.Tie as tie
 

@@ -2,7 +2,7 @@
 use mathlib.Core.Path.{refl, sym}
 use borrow.Author.Needs.{needs}
 use borrow.Author.Tests.{lt-ltb, le-ltb}
-use Rattle.arith.proofs.Refusals.{or-here, or-later}
+use Rattle.limits.proofs.Refusals.{or-here, or-later}
 use Rattle.bank.proofs.inner.too_small.Statement.{statement}
 use Rattle.bank.proofs.inner.too_small.Tie as tie
 

@@ -3,7 +3,7 @@ use mathlib.Core.Path.{refl, sym, _∙_}
 use Prim.Native.Nat.{_-_}
 use borrow.Author.Needs.{needs}
 use borrow.Author.Tests.{lt-ltb, le-ltb}
-use Rattle.arith.proofs.Refusals.{refused-here, refused-later}
+use Rattle.limits.proofs.Refusals.{refused-here, refused-later}
 use Rattle.index.proofs.inner.refusal_of.Statement.{statement}
 use Rattle.index.proofs.inner.refusal_of.Tie as tie
 

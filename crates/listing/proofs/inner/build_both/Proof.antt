@@ -2,7 +2,7 @@
 use mathlib.Core.Path.{_∙_}
 use native.Mathlib.Omega.{arith}
 use borrow.Author.Needs.{needs}
-use Rattle.parts.specs.Parts.{arrays}
+use Rattle.bank_parts.specs.Parts.{arrays}
 use Rattle.listing.proofs.Building.{index-fits, both-built}
 use Rattle.listing.proofs.inner.build_both.Statement.{statement}
 use Rattle.listing.proofs.inner.build_both.Tie as tie

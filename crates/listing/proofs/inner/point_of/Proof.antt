@@ -5,7 +5,7 @@ use Prim.Native.Nat.{ℕ, _-_, _≤_}
 use native.Mathlib.Omega.{arith}
 use borrow.Author.Needs.{needs}
 use lib.ListN.{length, take, drop, length-set}
-use Rattle.atoms.specs.Encoding.{padTo}
+use Rattle.bank_spec.specs.Encoding.{padTo}
 use Rattle.listing.specs.Steps.{pointFrom}
 use Rattle.listing.proofs.Numbers.{point-more}
 use Rattle.listing.proofs.inner.point_of.Statement.{statement}

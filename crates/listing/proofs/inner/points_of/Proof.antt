@@ -5,7 +5,7 @@ use Prim.Native.Nat.{_+_, _-_, _*_, _≤_}
 use native.Mathlib.Omega.{arith}
 use borrow.Author.Needs.{needs}
 use lib.ListN.{length, take, length-set}
-use Rattle.arith.specs.Lists.{countUp}
+use Rattle.arrays.specs.Lists.{countUp}
 use Rattle.listing.specs.Listing.{pointOf}
 use Rattle.listing.proofs.Numbers.{none-stored, base-more, points-more, points-are}
 use Rattle.listing.proofs.inner.points_of.Statement.{statement}

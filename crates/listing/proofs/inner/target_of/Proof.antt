@@ -4,7 +4,7 @@ use Prim.Native.Nat.{ℕ, _+_, _-_, _*_, _≤_}
 use native.Mathlib.Omega.{arith}
 use borrow.Author.Needs.{needs}
 use lib.ListN.{length, getD, length-set}
-use Rattle.arith.proofs.Fill.{Filled, filled-more}
+use Rattle.arrays.proofs.Fill.{Filled, filled-more}
 use Rattle.listing.proofs.Numbers.{target-is}
 use Rattle.listing.proofs.inner.target_of.Statement.{statement}
 use Rattle.listing.proofs.inner.target_of.Tie as tie

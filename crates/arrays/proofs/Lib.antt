@@ -1,0 +1,4 @@
+-- The laws of this crate, which the crates above cite too.
+pub mod Fill
+pub mod Parts
+pub mod Lists

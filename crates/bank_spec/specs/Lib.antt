@@ -1,0 +1,6 @@
+-- What the contracts of the crates above cite.
+pub mod Push
+pub mod Stock
+pub mod Bank
+pub mod Encoding
+pub mod Facts

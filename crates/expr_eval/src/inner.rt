@@ -1,0 +1,41 @@
+// What the crates above call with what they have tested.
+use expr::MAX_TOKENS;
+use expr::Token;
+ghost use mathlib.Core.Path.{_≡_};
+ghost use Rattle.expr.specs.Formula.{tokens};
+ghost use Rattle.expr_eval.specs.Value.{valueOf, Evaluable};
+
+// The value of a formula that has passed the test, from left to right over a stack.
+pub fn eval_tokens(w: u32, count: usize, ops: &[u8], operands: &[u64], words: &[u64]) -> u64
+    requires { ⌜ Evaluable w count (now ops) (now operands) (now words) ⌝ }
+    ensures { λ r. ⌜ r ≡ valueOf w (now (words .entry)) (tokens count (now (ops .entry)) (now (operands .entry))) ⌝ }
+{
+    let mut stack = [0u64; MAX_TOKENS];
+    let mut sp: usize = 0;
+    let mut i: usize = 0;
+    while i < count {
+        let t = expr::token_at(ops, operands, i);
+        i += 1;
+        match t {
+            Token::Constant(k) => {
+                stack[sp] = arith::reduce(k, w);
+                sp += 1;
+            }
+            Token::Variable(k) => {
+                let at = k as usize;
+                stack[sp] = arith::reduce(words[at], w);
+                sp += 1;
+            }
+            Token::Binary(g) => {
+                sp -= 1;
+                let a = stack[sp - 1];
+                let b = stack[sp];
+                stack[sp - 1] = row_gates::inner::gate_apply_lane(a, b, g, w);
+            }
+            Token::Not => stack[sp - 1] = arith::mod_not(stack[sp - 1], w),
+            Token::Neg => stack[sp - 1] = arith::mod_neg(stack[sp - 1], w),
+            Token::Bad => return 0,
+        }
+    }
+    stack[0]
+}

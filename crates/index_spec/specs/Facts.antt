@@ -1,0 +1,71 @@
+-- What holds of every index, as types; proofs/ has their proofs. Assumes nothing.
+use mathlib.Core.Path.{_≡_}
+use mathlib.Core.Bool.{false}
+use mathlib.Core.Logic.{_⊎_}
+use mathlib.Core.List.{List, []}
+use Prim.Native.Nat.{ℕ, _≤_, _<_}
+use lib.ListN.{length, getD, take}
+use Rattle.row_gates.specs.Gates.{gateRow}
+use Rattle.row_gates.specs.declared.Gate.{Gate}
+use Rattle.row_gates.specs.declared.Gate.the-variants.{And}
+use Rattle.arrays.specs.Lists.{In}
+use Rattle.index_spec.specs.Index.{Pair, indexOf, rowsIn, allPairs}
+use Rattle.index_spec.specs.Trials.{triedOf}
+
+-- some slot has the row
+pub record Holds (rows : List (List ℕ)) (row : List ℕ) : Type 0 where
+  pub slot : ℕ
+  pub below : slot < length rows
+  pub same : getD rows slot [] ≡ row
+
+-- what stands past an index's end
+abbrev pub noPair : Pair
+noPair = record { gate = And; b = 0; c = 0; row = [] }
+
+-- 01, Index, of one pair: its row is its gate of its atoms' rows, b ≤ c below the count; and the bank doesn't hold it
+pub record SoundPair (w : ℕ) (gates : List Gate) (bank : List (List ℕ)) (p : Pair) : Type 0 where
+  pub gate : In (p .gate) gates
+  pub ordered : p .b ≤ p .c
+  pub below : p .c < length bank
+  pub row : p .row ≡ gateRow (p .gate) w (getD bank (p .b) []) (getD bank (p .c) [])
+  pub new : Holds bank (p .row) → ⊥
+
+-- of a list of pairs: each is sound, and no two share a row
+pub record SoundPairs (w : ℕ) (gates : List Gate) (bank : List (List ℕ)) (pairs : List Pair) : Type 0 where
+  pub pair : (k : ℕ) → k < length pairs → SoundPair w gates bank (getD pairs k noPair)
+  pub distinct : (i j : ℕ) → i < j → j < length pairs → getD pairs i noPair .row ≡ getD pairs j noPair .row → ⊥
+
+-- no row is lost: each gate's row of two atoms, in any order and equal too, is the bank's or a pair's
+abbrev pub NoneLost : ℕ → List Gate → List (List ℕ) → List Pair → Type 0
+NoneLost w gates bank pairs =
+    (g : Gate) → In g gates → (b c : ℕ) → b < length bank → c < length bank
+    → Holds bank (gateRow g w (getD bank b []) (getD bank c [])) ⊎ Holds (rowsIn pairs) (gateRow g w (getD bank b []) (getD bank c []))
+
+-- ---- the facts, for every width, limit, list of gates and bank
+-- 01, Index: its pairs are gates of atoms' rows that the bank doesn't hold, none twice
+abbrev pub IndexIsSound : Type 0
+IndexIsSound = (w L : ℕ) (gates : List Gate) (bank : List (List ℕ)) → SoundPairs w gates bank (indexOf w L gates bank .pairs)
+
+-- 01, Index: a new row when L pairs are listed ends the build
+abbrev pub AtMostLimit : Type 0
+AtMostLimit = (w L : ℕ) (gates : List Gate) (bank : List (List ℕ)) → length (indexOf w L gates bank .pairs) ≤ L
+
+-- 01, Index: the mark is set exactly if a build ended so. Without it no row is lost
+abbrev pub UncutLosesNone : Type 0
+UncutLosesNone = (w L : ℕ) (gates : List Gate) (bank : List (List ℕ)) → indexOf w L gates bank .cut ≡ false → NoneLost w gates bank (indexOf w L gates bank .pairs)
+
+-- 01, Index: a row held by bank or index is skipped, a new row when L pairs are listed ends the build and sets the mark, nothing else does. So built, an
+-- index is the first L of all new rows, each counted once, and is cut exactly if there are more
+abbrev pub ByTrials : Type 0
+ByTrials = (w L : ℕ) (gates : List Gate) (bank : List (List ℕ)) → triedOf w L gates bank ≡ indexOf w L gates bank
+
+-- 01, Index: smaller L gives its first L pairs
+abbrev pub FirstPairs : Type 0
+FirstPairs = (w L M : ℕ) (gates : List Gate) (bank : List (List ℕ)) → L ≤ M → indexOf w L gates bank .pairs ≡ take L (indexOf w M gates bank .pairs)
+
+-- what is counted is each new row once: all pairs are sound, and none is lost
+abbrev pub AllAreSound : Type 0
+AllAreSound = (w : ℕ) (gates : List Gate) (bank : List (List ℕ)) → SoundPairs w gates bank (allPairs w gates bank)
+
+abbrev pub AllLoseNone : Type 0
+AllLoseNone = (w : ℕ) (gates : List Gate) (bank : List (List ℕ)) → NoneLost w gates bank (allPairs w gates bank)

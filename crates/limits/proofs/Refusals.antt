@@ -1,0 +1,68 @@
+-- Laws of refusals. Assumes nothing.
+use mathlib.Core.Path.{_≡_, refl, ap, _∙_}
+use mathlib.Core.Logic.{_⊎_, inl, inr}
+use mathlib.Core.Bool.{Bool, true, false, _||_, cond}
+use Prim.Native.Nat.{ℕ, _*_, _/_, _≤_, _<_}
+use native.Mathlib.Decide.{decLt, decLe}
+use native.Mathlib.Nat.{div-lt-iff-lt-mul, lt-of-not-le, mul-comm}
+use native.Mathlib.Omega.{arith}
+use borrow.Author.Tests.{lt-ltb, le-ltb, ltb-false}
+use lib.Dec.{ltb}
+use Rattle.limits.specs.Refusal.{refuse, unlessRefused, outsideOf}
+
+pub true-not-false : true ≡ false → ⊥
+true-not-false e = let z : _≡_ {A = ℕ} 0 1 = cc in omega arith
+
+-- a chain of refusals: the first that applies is the call's
+pub refused-here : {b : Bool} (n rest : ℕ) → b ≡ true → refuse b n rest ≡ n
+refused-here n rest e = ap (λ (x : Bool). refuse x n rest) e
+
+pub refused-later : {b : Bool} (n : ℕ) {rest m : ℕ} → b ≡ false → rest ≡ m → refuse b n rest ≡ m
+refused-later n {rest} e f = ap (λ (x : Bool). refuse x n rest) e ∙ f
+
+-- conditions under one number: one of them, or those after it
+pub or-here : {a : Bool} (b : Bool) → a ≡ true → (a || b) ≡ true
+or-here b e = ap (λ (x : Bool). x || b) e
+
+pub or-later : {a : Bool} {b c : Bool} → a ≡ false → b ≡ c → (a || b) ≡ c
+or-later {a} {b} e f = ap (λ (x : Bool). x || b) e ∙ f
+
+-- what a range test that passed tells
+pub le-or-lt : (a b : ℕ) → (a ≤ b) ⊎ (b < a)
+le-or-lt a b = elim (decLe a b) [ yes h ↦ inl h | no h ↦ inr (lt-of-not-le h) ]
+
+pub record Within (low high n : ℕ) : Type 0 where
+  pub least : low ≤ n
+  pub most : n ≤ high
+
+pub within : (low high n : ℕ) → outsideOf low high n ≡ false → Within low high n
+within low high n h = go (le-or-lt low n) (le-or-lt n high)
+  where
+    go : (low ≤ n) ⊎ (n < low) → (n ≤ high) ⊎ (high < n) → Within low high n
+    go (inl a) (inl b) = record { least = a; most = b }
+    go (inl a) (inr b) = absurd (true-not-false (simp (le-ltb n low a, lt-ltb high n b) at h))
+    go (inr a) b = absurd (true-not-false (simp (lt-ltb n low a) at h))
+
+-- ---- what is known where nothing is refused
+-- a test that did not refuse, and the rest of the chain
+pub passed : (b : Bool) (number rest : ℕ) → 0 < number → refuse b number rest ≡ 0 → (b ≡ false) × (rest ≡ 0)
+passed true number rest h e = absurd (omega arith)
+passed false number rest h e = (refl, e)
+
+pub neither : (a b : Bool) → (a || b) ≡ false → (a ≡ false) × (b ≡ false)
+neither true b e = absurd (true-not-false e)
+neither false b e = (refl, e)
+
+-- an array of n elements that is not too short for k parts of s
+pub enough : (s n k : ℕ) → 0 < s → ltb (n / s) k ≡ false → s * k ≤ n
+enough s n k h e = elim (decLt n (k * s)) [
+  | yes l ↦ absurd (omega (arith, ltb-false (n / s) k e, div-lt-iff-lt-mul {k = s} {x = n} {y = k} h .1 l))
+  | no m ↦ omega (arith, mul-comm k s)
+]
+
+-- ---- the answer
+pub unless-refused : {A : Type 0} (n : ℕ) (a b : A) → 0 < n → unlessRefused n a b ≡ b
+unless-refused n a b h = ap (λ (t : Bool). cond t b a) (lt-ltb 0 n h)
+
+pub unless-not : {A : Type 0} (n : ℕ) (a b : A) → n ≡ 0 → unlessRefused n a b ≡ a
+unless-not n a b h = ap (λ (t : Bool). cond t b a) (le-ltb 0 n (omega arith))

@@ -1,5 +1,0 @@
--- What the contracts of the crates above cite.
-pub mod Index
-pub mod Turns
-pub mod Facts
-pub mod Encoding

@@ -1,0 +1,62 @@
+-- Laws of rows: a gate place by place, and the test of equality. Assumes nothing.
+use mathlib.Core.Path.{_≡_, refl, sym, ap, ap₂, _∙_}
+use mathlib.Core.Bool.{Bool, true, false, cond}
+use mathlib.Core.List.{List, [], _∷_, zipWith}
+use Prim.Native.Nat.{ℕ, _<_}
+use native.Mathlib.Decide.{ℕ-discrete}
+use borrow.Author.Tests.{eq-eqb, ne-eqb}
+use lib.ListN.{length, getD}
+use Rattle.arrays.proofs.Fill.{length-zipWith, getD-zipWith}
+use Rattle.limits.proofs.Refusals.{true-not-false}
+use Rattle.row_gates.specs.Gates.{gateOf, gateRow, sameRow}
+use Rattle.row_gates.specs.declared.Gate.{Gate}
+use Rattle.row_gates.proofs.GateLaws.{gate-comm}
+
+pub length-gateRow : (g : Gate) (w : ℕ) (a b : List ℕ) → length a ≡ length b → length (gateRow g w a b) ≡ length a
+unfolding gateRow
+length-gateRow g w a b e = length-zipWith (gateOf g w) a b e
+
+pub getD-gateRow : (g : Gate) (w : ℕ) (a b : List ℕ) (k : ℕ) → k < length a → k < length b → getD (gateRow g w a b) k 0 ≡ gateOf g w (getD a k 0) (getD b k 0)
+unfolding gateRow
+getD-gateRow g w a b k h l = getD-zipWith (gateOf g w) a b k h l
+
+-- a gate on rows commutes, as it does on words
+pub row-comm : (g : Gate) (w : ℕ) (x y : List ℕ) → gateRow g w x y ≡ gateRow g w y x
+unfolding gateRow zipWith
+row-comm g w [] [] = refl
+row-comm g w [] (b ∷ y) = refl
+row-comm g w (a ∷ x) [] = refl
+row-comm g w (a ∷ x) (b ∷ y) = ap₂ (λ (n : ℕ) (l : List ℕ). n ∷ l) (gate-comm g w a b) (row-comm g w x y)
+
+-- a row with itself, where the gate leaves every word as it is
+pub row-self : (g : Gate) (w : ℕ) → ((a : ℕ) → gateOf g w a a ≡ a) → (x : List ℕ) → gateRow g w x x ≡ x
+unfolding gateRow zipWith
+row-self g w h [] = refl
+row-self g w h (a ∷ x) = ap₂ (λ (n : ℕ) (l : List ℕ). n ∷ l) (h a) (row-self g w h x)
+
+-- ---- the test of equality is exact
+pub same-row-refl : (xs : List ℕ) → sameRow xs xs ≡ true
+unfolding sameRow
+same-row-refl [] = refl
+same-row-refl (x ∷ xs) = ap (λ (b : Bool). cond b (sameRow xs xs) false) (eq-eqb x x refl) ∙ same-row-refl xs
+
+pub same-row-eq : (xs ys : List ℕ) → sameRow xs ys ≡ true → xs ≡ ys
+unfolding sameRow
+same-row-eq [] [] h = refl
+same-row-eq [] (y ∷ ys) h = absurd (true-not-false (sym h))
+same-row-eq (x ∷ xs) [] h = absurd (true-not-false (sym h))
+same-row-eq (x ∷ xs) (y ∷ ys) h = go (same-row-eq xs ys) (ℕ-discrete x y)
+  where
+    go : (sameRow xs ys ≡ true → xs ≡ ys) → Dec (x ≡ y) → _≡_ {A = List ℕ} (x ∷ xs) (y ∷ ys)
+    go rest (yes e) = ap₂ (λ (z : ℕ) (zs : List ℕ). z ∷ zs) e (rest (ap (λ (b : Bool). cond b (sameRow xs ys) false) (sym (eq-eqb x y e)) ∙ h))
+    go rest (no n) = absurd (true-not-false (sym h ∙ ap (λ (b : Bool). cond b (sameRow xs ys) false) (ne-eqb x y n)))
+
+pub same-row-of : {xs ys : List ℕ} → xs ≡ ys → sameRow xs ys ≡ true
+same-row-of {xs} e = ap (λ (l : List ℕ). sameRow xs l) (sym e) ∙ same-row-refl xs
+
+pub same-row-not : (xs ys : List ℕ) → (xs ≡ ys → ⊥) → sameRow xs ys ≡ false
+same-row-not xs ys n = go (sameRow xs ys) refl
+  where
+    go : (b : Bool) → sameRow xs ys ≡ b → sameRow xs ys ≡ false
+    go true e = absurd (n (same-row-eq xs ys e))
+    go false e = e

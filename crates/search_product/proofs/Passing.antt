@@ -1,0 +1,59 @@
+-- What is known where no refusal of a product search applies, and what its answer then says. Assumes nothing.
+use mathlib.Core.Path.{_≡_, sym, ap, _∙_}
+use mathlib.Core.Bool.{false, _||_}
+use mathlib.Core.List.{List, [], _∷_}
+use mathlib.Core.Option.{Option}
+use Prim.Native.Nat.{ℕ, zero, suc, _/_, _^_, _<_}
+use native.Mathlib.Omega.{arith}
+use borrow.Author.Tests.{ltb-false, leb-false, not-false}
+use lib.Dec.{ltb, leb}
+use lib.ListN.{length, getD, take}
+use Rattle.limits.specs.Refusal.{badWidth, answer, refused}
+use Rattle.limits.proofs.Refusals.{within, passed, neither, enough, unless-refused, unless-not}
+use Rattle.index_order.specs.Order.{isOrder}
+use Rattle.search_filter.specs.Refusals.{shortPairs, wrongOrder}
+use Rattle.limits.specs.Limits.{tooManyPairs}
+use Rattle.row_lent.specs.Range.{reaches}
+use Rattle.search_product_stages.specs.Trying.{Product, tryEverything}
+use Rattle.search_product_stages.specs.Stages.{Lent}
+use Rattle.search_product.specs.Answer.{searchRefusal, product}
+
+-- where refusal 5 doesn't apply, each word is below 2^w
+not-reached : (m : ℕ) (l : List ℕ) → reaches m l ≡ false → (j : ℕ) → j < length l → getD l j 0 < m
+unfolding reaches
+not-reached m [] e j h = absurd (omega arith)
+not-reached m (x ∷ l) e zero h = leb-false m x (neither (leb m x) (reaches m l) e .0)
+not-reached m (x ∷ l) e (suc j) h = not-reached m l (neither (leb m x) (reaches m l) e .1) j (omega arith)
+
+module _ (w count : ℕ) (atoms : List ℕ) (n : ℕ) (listed order target : List ℕ) where
+  pub none-refused : searchRefusal w count atoms n listed order target ≡ 0 → length target ≡ 16 → Lent w count atoms n listed order target
+  none-refused e long =
+      let wide = passed (badWidth w) 2 _ (omega arith) e in
+      let short = passed (ltb (length atoms / 16) count || shortPairs n listed order) 4 _ (omega arith) (wide .1) in
+      let low = passed (reaches (2 ^ w) target) 5 _ (omega arith) (short .1) in
+      let few = passed (ltb 479 count || tooManyPairs n) 7 _ (omega arith) (low .1) in
+      let ordered = passed (wrongOrder n listed order) 8 0 (omega arith) (few .1) in
+      let one = neither (ltb (length atoms / 16) count) (shortPairs n listed order) (short .0) in
+      let two = neither (ltb (length listed / 16) n) (ltb (length order) n) (one .1) in
+      let counts = neither (ltb 479 count) (tooManyPairs n) (few .0) in
+      record {
+        least = within 1 64 w (wide .0) .least;
+        width = within 1 64 w (wide .0) .most;
+        few = ltb-false _ _ (counts .0);
+        atoms-fit = enough 16 (length atoms) count (omega arith) (one .0);
+        ordered = record {
+          most = ltb-false _ _ (counts .1);
+          rows-fit = enough 16 (length listed) n (omega arith) (two .0);
+          order-fit = ltb-false _ _ (two .1);
+          is = not-false (isOrder n listed (take n order)) (ordered .0);
+        };
+        long = long;
+        reduced = λ j h. not-reached (2 ^ w) target (low .0) j (omega (arith, long));
+      }
+
+  pub says-refused : (number : ℕ) → number ≡ searchRefusal w count atoms n listed order target → 0 < number → refused number ≡ product w count atoms n listed order target
+  says-refused number e h = ap (λ (k : ℕ). refused k) e ∙ sym (unless-refused (searchRefusal w count atoms n listed order target) _ _ (omega arith))
+
+  pub says-found : (found : Option Product) → searchRefusal w count atoms n listed order target ≡ 0 → found ≡ tryEverything w count atoms n listed target
+      → answer found ≡ product w count atoms n listed order target
+  says-found found none e = ap (λ (f : Option Product). answer f) e ∙ sym (unless-not (searchRefusal w count atoms n listed order target) _ _ none)

@@ -1,0 +1,47 @@
+// The product search: template_decomposer.rs, `layer2`'s product loop, after a first stage over two atoms.
+pub mod inner;
+
+use row_lent::AtomSlot;
+use row_lent::PairSlot;
+use search_product_stages::inner::Found;
+ghost use mathlib.Core.Path.{_≡_};
+ghost use Rattle.search_product.specs.Answer.{productSays, product};
+
+// 01, Product search: two atom slots, an atom slot and a pair slot, or none; or the refusal.
+pub enum ProductAnswer {
+    Atoms(AtomSlot, AtomSlot),
+    AtomPair(AtomSlot, PairSlot),
+    Nothing,
+    Refused(u32),
+}
+
+// Finds the first product of two atoms, else of an atom and a listed pair, that is the target; in 01's order. Refuses 2, 4, 5, 7, 8.
+pub fn product_search(
+    w: u32,
+    count: usize,
+    atoms: &[u64],
+    pairs: usize,
+    listed: &[u64],
+    slots: &[u32],
+    target: [u64; 16],
+) -> ProductAnswer
+    ensures { λ r. ⌜ productSays r ≡ product w count (now (atoms .entry)) pairs (now (listed .entry)) (now (slots .entry)) target ⌝ }
+{
+    let refusal = inner::search_refusal(w, count, atoms, pairs, listed, slots, target);
+    if refusal != 0 {
+        return ProductAnswer::Refused(refusal);
+    }
+    match search_product_stages::inner::search_rows(
+        atoms,
+        count,
+        listed,
+        slots,
+        pairs,
+        &target,
+        w,
+    ) {
+        Found::Atoms(a, b) => ProductAnswer::Atoms(a, b),
+        Found::AtomPair(a, s) => ProductAnswer::AtomPair(a, s),
+        Found::Nothing => ProductAnswer::Nothing,
+    }
+}

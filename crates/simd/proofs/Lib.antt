@@ -1,4 +1,0 @@
--- The laws of this crate, which the crates above cite too.
-pub mod GateLaws
-pub mod Rows
-pub mod Reaching

@@ -1,4 +1,0 @@
--- What the contracts of this crate, and the definitions above it, cite.
-pub mod Gates
-pub mod Range
-pub mod Limits

@@ -1,0 +1,207 @@
+// The calls' answers as replies: an enum's case as a number beside its values; rows, points and tokens by their words. A refusal has zeros beside it.
+use crate::PointWords;
+use crate::Reply;
+use crate::RowReply;
+use crate::TokenReply;
+use crate::WordReply;
+use crate::inner::slices;
+use bank::BankAnswer;
+use bank_lookup::FoundRow;
+use expr::Token;
+use expr_eval::Value;
+use index::IndexAnswer;
+use probe_points::Point;
+use row_gates::Match;
+use row_gates::RowAnswer;
+use search_candidates::CandidatesAnswer;
+use search_product::ProductAnswer;
+ghost use mathlib.Core.Path.{_≡_};
+ghost use mathlib.Core.List.{map};
+ghost use Rattle.row_gates.specs.Gates.{gateAt, matchSays};
+ghost use Rattle.expr_eval.specs.Answers.{valueSays};
+ghost use Rattle.bank.specs.Build.{bankSays};
+ghost use Rattle.bank_lookup.specs.Lookup.{foundSays};
+ghost use Rattle.search_candidates.specs.Candidates.{candidatesSay};
+ghost use Rattle.index.specs.Build.{indexSays};
+ghost use Rattle.search_product.specs.Answer.{productSays};
+ghost use Rattle.simjaldek_abi.specs.Slices.{rowIn, twoShort, gateRefusal};
+ghost use Rattle.simjaldek_abi.specs.Reply.{refusedReply, reply, markOf, numberReply, indexReply, productReply, optionReply, matchReply, wordReply, rowReply, refusedRow, pointWords, gateCall, rowOrElse, tokenParts, tokenReply};
+
+// A reply that is only a refusal.
+pub fn refused(refusal: u32) -> Reply
+    ensures { λ r. ⌜ r ≡ refusedReply refusal ⌝ }
+{
+    Reply {
+        refusal,
+        kind: 0,
+        a: 0,
+        b: 0,
+    }
+}
+
+// A reply that is no refusal.
+pub fn answer(kind: u32, a: u32, b: u32) -> Reply
+    ensures { λ r. ⌜ r ≡ reply kind a b ⌝ }
+{
+    Reply {
+        refusal: 0,
+        kind,
+        a,
+        b,
+    }
+}
+
+// Kind 0 nothing, 1 two atoms, 2 an atom and a pair.
+pub fn of_product(x: ProductAnswer) -> Reply
+    ensures { λ r. ⌜ r ≡ productReply (productSays x) ⌝ }
+{
+    match x {
+        ProductAnswer::Atoms(a, b) => answer(1, a.0, b.0),
+        ProductAnswer::AtomPair(a, s) => answer(2, a.0, s.0),
+        ProductAnswer::Nothing => answer(0, 0, 0),
+        ProductAnswer::Refused(number) => refused(number),
+    }
+}
+
+// Kind 1 with the slot, 0 none.
+pub fn of_slot(x: FoundRow) -> Reply
+    ensures { λ r. ⌜ r ≡ optionReply (foundSays x) ⌝ }
+{
+    match x {
+        FoundRow::At(slot) => answer(1, slot.0, 0),
+        FoundRow::Nothing => answer(0, 0, 0),
+        FoundRow::Refused(number) => refused(number),
+    }
+}
+
+// The count of atoms.
+pub fn of_bank(x: BankAnswer) -> Reply
+    ensures { λ r. ⌜ r ≡ numberReply (bankSays x) ⌝ }
+{
+    match x {
+        BankAnswer::Built(count) => answer(0, count, 0),
+        BankAnswer::Refused(number) => refused(number),
+    }
+}
+
+// 1 for true, 0 for false.
+pub fn mark_of(mark: bool) -> u32
+    ensures { λ r. ⌜ r ≡ markOf mark ⌝ }
+{
+    if mark {
+        return 1;
+    }
+    0
+}
+
+// The count of pairs, and the mark "cut".
+pub fn of_index(x: IndexAnswer) -> Reply
+    ensures { λ r. ⌜ r ≡ indexReply (indexSays x) ⌝ }
+{
+    match x {
+        IndexAnswer::Built { pairs, cut } => answer(0, pairs, mark_of(cut)),
+        IndexAnswer::Refused(number) => refused(number),
+    }
+}
+
+// Kind 1 with the count of candidates, 0 "not used".
+pub fn of_candidates(x: CandidatesAnswer) -> Reply
+    ensures { λ r. ⌜ r ≡ optionReply (candidatesSay x) ⌝ }
+{
+    match x {
+        CandidatesAnswer::Used(count) => answer(1, count, 0),
+        CandidatesAnswer::NotUsed => answer(0, 0, 0),
+        CandidatesAnswer::Refused(number) => refused(number),
+    }
+}
+
+// Kind 1 the same, 0 different.
+pub fn of_match(x: Match) -> Reply
+    ensures { λ r. ⌜ r ≡ matchReply (matchSays x) ⌝ }
+{
+    match x {
+        Match::Same => answer(1, 0, 0),
+        Match::Different => answer(0, 0, 0),
+        Match::Refused(number) => refused(number),
+    }
+}
+
+pub fn of_value(x: Value) -> WordReply
+    ensures { λ r. ⌜ r ≡ wordReply (valueSays x) ⌝ }
+{
+    match x {
+        Value::Word(word) => WordReply { refusal: 0, word },
+        Value::Refused(refusal) => WordReply { refusal, word: 0 },
+    }
+}
+
+pub fn of_row(x: RowAnswer) -> RowReply
+    ensures { λ r. ⌜ r ≡ rowReply x ⌝ }
+{
+    let row = x.row;
+    RowReply {
+        refusal: x.refusal,
+        row,
+    }
+}
+
+// A row of zeros beside a refusal.
+pub fn refused_row(refusal: u32) -> RowReply
+    ensures { λ r. ⌜ r ≡ refusedRow refusal ⌝ }
+{
+    let row = [0u64; 16];
+    RowReply { refusal, row }
+}
+
+pub fn of_points(made: [Point; 16]) -> [PointWords; 16]
+    ensures { λ r. ⌜ r ≡ map pointWords made ⌝ }
+{
+    let mut points = [PointWords { words: [0; 6] }; 16];
+    let mut k: usize = 0;
+    while k < 16 {
+        let p = made[k];
+        let words = p.words;
+        let q = PointWords { words };
+        points[k] = q;
+        k += 1;
+    }
+    points
+}
+
+fn token(opcode: u8, operand: u64) -> TokenReply
+    ensures { λ r. ⌜ r ≡ tokenParts opcode operand ⌝ }
+{
+    TokenReply {
+        opcode: opcode as u32,
+        operand,
+    }
+}
+
+pub fn of_token(t: Token) -> TokenReply
+    ensures { λ r. ⌜ r ≡ tokenReply t ⌝ }
+{
+    match t {
+        Token::Constant(k) => token(0, k),
+        Token::Variable(i) => token(1, i),
+        Token::Binary(g) => token(bank_atom::inner::gate_opcode(g), 0),
+        Token::Not => token(7, 0),
+        Token::Neg => token(8, 0),
+        Token::Bad => token(255, 0),
+    }
+}
+
+// The gate with number g on two rows, or, where `undo` is set, the row that completes b to the target a under it. Refuses 2, 4, and 6 for a number above 4.
+pub fn of_gate(undo: bool, a: &[u64], b: &[u64], g: u32, w: u32) -> RowReply
+    ensures { λ r. ⌜ r ≡ rowOrElse (gateRefusal w (twoShort (now (a .entry)) (now (b .entry))) g) (gateCall undo (gateAt g) w (rowIn (now (a .entry))) (rowIn (now (b .entry)))) ⌝ }
+{
+    let refusal = slices::gate_refusal(w, slices::two_short(a, b), g);
+    if refusal != 0 {
+        return refused_row(refusal);
+    }
+    let left = row_lent::inner::load_row(a, 0);
+    let right = row_lent::inner::load_row(b, 0);
+    if undo {
+        return of_row(row_gates::gate_residual(left, right, row_gates::inner::gate_at(g), w));
+    }
+    of_row(row_gates::gate_apply(left, right, row_gates::inner::gate_at(g), w))
+}
