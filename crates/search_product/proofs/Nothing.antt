@@ -8,7 +8,7 @@ use Prim.Native.Nat.{ℕ, _<_}
 use lib.ListN.{length}
 use Rattle.arrays.specs.Parts.{partAt}
 use Rattle.arrays.proofs.Lists.{false-true, is-false}
-use Rattle.search_product_stages.specs.Trying.{fits, tryEverything}
+use Rattle.search_product_trial.specs.Trying.{fits, tryEverything}
 use Rattle.search_product.specs.Answer.{searchRefusal}
 use Rattle.search_product.specs.Demand.{Equal, NoProduct, OwnIndex, Uncut, NothingExactly, DemandThree}
 use Rattle.search_product.proofs.Trials.{NoneFits, nothing-fits, fits-nothing, fits-equal, equal-fits}

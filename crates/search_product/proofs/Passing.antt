@@ -14,8 +14,8 @@ use Rattle.index_order.specs.Order.{isOrder}
 use Rattle.search_filter.specs.Refusals.{shortPairs, wrongOrder}
 use Rattle.limits.specs.Limits.{tooManyPairs}
 use Rattle.row_lent.specs.Range.{reaches}
-use Rattle.search_product_stages.specs.Trying.{Product, tryEverything}
-use Rattle.search_product_stages.specs.Stages.{Lent}
+use Rattle.search_product_trial.specs.Trying.{Product, tryEverything}
+use Rattle.search_product_trial.specs.Stages.{Lent}
 use Rattle.search_product.specs.Answer.{searchRefusal, product}
 
 -- where refusal 5 doesn't apply, each word is below 2^w

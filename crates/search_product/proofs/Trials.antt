@@ -17,7 +17,7 @@ use Rattle.row_gates.proofs.Rows.{length-gateRow, getD-gateRow, same-row-eq, sa
 use Rattle.index_order.specs.Order.{firstWord, orderOf}
 use Rattle.index_order.proofs.OrderLaws.{order-length, order-exactly, order-below, order-once}
 use Rattle.search_equation.specs.Equation.{used}
-use Rattle.search_product_stages.specs.Trying.{Product, fits, fitting, slotsFor, withAtoms, withPairs, tryEverything}
+use Rattle.search_product_trial.specs.Trying.{Product, fits, fitting, slotsFor, withAtoms, withPairs, tryEverything}
 use Rattle.search_product.specs.Demand.{Equal}
 
 -- ---- a trial fits exactly if the products are equal to the target in all sixteen places

@@ -9,7 +9,7 @@ use Rattle.limits.specs.Limits.{tooFewRows, tooManyAtoms, tooManyPairs}
 use Rattle.row_lent.specs.Range.{reaches}
 use Rattle.search_product.specs.declared.ProductAnswer.{ProductAnswer}
 use Rattle.search_product.specs.declared.ProductAnswer.the-variants.{Atoms, AtomPair, Nothing, Refused}
-use Rattle.search_product_stages.specs.Trying.{Product, tryEverything}
+use Rattle.search_product_trial.specs.Trying.{Product, tryEverything}
 
 -- 01, Turned back, for a product search: 2, 4, 5, 7, 8
 abbrev pub searchRefusal : ℕ → ℕ → List ℕ → ℕ → List ℕ → List ℕ → List ℕ → ℕ

@@ -16,7 +16,7 @@ use Rattle.bank.specs.Build.{BankBuilt, bankSays}
 use Rattle.index_spec.specs.Index.{rowsOf, allGates, allPairs}
 use Rattle.index_spec.specs.Encoding.{pairRow}
 use Rattle.index.specs.Build.{orderList, lentIndex}
-use Rattle.search_product_stages.specs.Trying.{Product}
+use Rattle.search_product_trial.specs.Trying.{Product}
 use Rattle.search_product.specs.Answer.{product}
 
 -- ---- what a product is, in demand 3's words; an atom stands for its row

@@ -1,5 +1,8 @@
-// The refusals of a product search.
+// What the product search is made of: its refusals, and its two stages one after the other.
+use search_product_trial::inner::Found;
 ghost use mathlib.Core.Path.{_≡_};
+ghost use Rattle.search_product_trial.specs.Trying.{tryEverything};
+ghost use Rattle.search_product_trial.specs.Stages.{Lent, foundSays};
 ghost use Rattle.search_product.specs.Answer.{searchRefusal};
 
 // The refusal of a product search; 0 for none.
@@ -39,4 +42,33 @@ pub fn search_refusal(
         return 8;
     }
     0
+}
+
+// Both stages: two atoms first, then an atom and a listed pair.
+pub fn search_rows(
+    atoms: &[u64],
+    count: usize,
+    listed: &[u64],
+    slots: &[u32],
+    n: usize,
+    target: &[u64],
+    w: u32,
+) -> Found
+    requires { ⌜ Lent w count (now atoms) n (now listed) (now slots) (now target) ⌝ }
+    ensures { λ r. ⌜ foundSays r ≡ tryEverything w count (now (atoms .entry)) n (now (listed .entry)) (now (target .entry)) ⌝ }
+{
+    let found = search_product_atoms::inner::two_atoms(atoms, count, target, w);
+    match found {
+        Found::Nothing => search_product_pairs::inner::atom_and_pair(
+            atoms,
+            count,
+            listed,
+            slots,
+            n,
+            target,
+            w,
+        ),
+        Found::Atoms(a, b) => Found::Atoms(a, b),
+        Found::AtomPair(a, s) => Found::AtomPair(a, s),
+    }
 }

@@ -3,7 +3,7 @@ pub mod inner;
 
 use row_lent::AtomSlot;
 use row_lent::PairSlot;
-use search_product_stages::inner::Found;
+use search_product_trial::inner::Found;
 ghost use mathlib.Core.Path.{_≡_};
 ghost use Rattle.search_product.specs.Answer.{productSays, product};
 
@@ -31,15 +31,7 @@ pub fn product_search(
     if refusal != 0 {
         return ProductAnswer::Refused(refusal);
     }
-    match search_product_stages::inner::search_rows(
-        atoms,
-        count,
-        listed,
-        slots,
-        pairs,
-        &target,
-        w,
-    ) {
+    match inner::search_rows(atoms, count, listed, slots, pairs, &target, w) {
         Found::Atoms(a, b) => ProductAnswer::Atoms(a, b),
         Found::AtomPair(a, s) => ProductAnswer::AtomPair(a, s),
         Found::Nothing => ProductAnswer::Nothing,

@@ -15,7 +15,7 @@ use Rattle.expr_cost.specs.declared.CostAnswer.{CostAnswer}
 use Rattle.probe_points.specs.declared.Draw.{Draw}
 use Rattle.probe_points.specs.declared.Point.{Point}
 use Rattle.probe_points.specs.declared.Points.{Points}
-use Rattle.search_product_stages.specs.Trying.{Product}
+use Rattle.search_product_trial.specs.Trying.{Product}
 use Rattle.index.specs.Build.{Summary}
 use Rattle.simjaldek_abi.specs.declared.Reply.{Reply}
 use Rattle.simjaldek_abi.specs.declared.WordReply.{WordReply}

@@ -2,7 +2,7 @@
 use mathlib.Core.Path.{sym, ap, _∙_}
 use native.Mathlib.Omega.{arith}
 use borrow.Author.Needs.{needs}
-use Rattle.search_product_stages.specs.Stages.{foundSays}
+use Rattle.search_product_trial.specs.Stages.{foundSays}
 use Rattle.search_product.proofs.Passing.{none-refused, says-refused, says-found}
 use Rattle.search_product.proofs.product_search.Statement.{statement}
 use Rattle.search_product.proofs.product_search.Tie as tie

@@ -4,7 +4,7 @@ use mathlib.Core.List.{List}
 use mathlib.Core.Option.{Option}
 use Prim.Native.Nat.{ℕ}
 use Rattle.limits.specs.Refusal.{Outcome}
-use Rattle.search_product_stages.specs.Trying.{Product}
+use Rattle.search_product_trial.specs.Trying.{Product}
 use Rattle.search_product.specs.Answer.{product}
 use Rattle.simjaldek_abi.specs.Slices.{rowIn, rowRefusal}
 use Rattle.simjaldek_abi.specs.Reply.{productReply}

@@ -1,4 +1,0 @@
--- The laws of this crate, which the crates above cite too.
-pub mod Trials
-pub mod Turns
-pub mod Slots

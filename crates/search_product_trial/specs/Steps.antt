@@ -1,0 +1,18 @@
+-- What the contracts of src/inner.rt, and of both stages, cite. Assumes nothing.
+use mathlib.Core.Path.{_≡_}
+use mathlib.Core.Bool.{Bool}
+use mathlib.Core.List.{List}
+use Prim.Native.Nat.{ℕ, _^_, _≤_, _<_}
+use lib.ListN.{length, getD}
+use Rattle.arrays.specs.Parts.{partAt}
+use Rattle.search_product_trial.specs.Trying.{fits}
+
+-- whether row a of xs times row b of ys is the target
+abbrev pub fitsAt : ℕ → List ℕ → List ℕ → ℕ → List ℕ → ℕ → Bool
+fitsAt w target xs a ys b = fits w target (partAt 16 xs a) (partAt 16 ys b)
+
+-- a target that no refusal turns back
+pub record Target (w : ℕ) (target : List ℕ) : Type 0 where
+  pub width : w ≤ 64
+  pub long : length target ≡ 16
+  pub reduced : (j : ℕ) → j < 16 → getD target j 0 < 2 ^ w
