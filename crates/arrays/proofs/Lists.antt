@@ -9,7 +9,7 @@ use native.Mathlib.Nat.{eq-or-lt-of-le}
 use native.Mathlib.Numerals.{add-one}
 use native.Mathlib.Omega.{arith}
 use lib.ListN.{getD, length}
-use Rattle.arrays.specs.Lists.{countUp, In, keep, firstThat}
+use Rattle.arrays.specs.Lists.{countUp, In, Place, keep, firstThat}
 
 pub false-true : false ≡ true → ⊥
 false-true p = let z : _≡_ {A = ℕ} 0 1 = cc in omega arith
@@ -136,15 +136,13 @@ in-at d [] i h = absurd (omega arith)
 in-at d (x ∷ xs) zero h = inl refl
 in-at d (x ∷ xs) (suc i) h = inr (in-at d xs i (omega arith))
 
-pub record Place {A : Type 0} (d x : A) (xs : List A) : Type 0 where
-  pub i : ℕ
-  pub below : i < length xs
-  pub is : getD xs i d ≡ x
-
 pub in-place : {A : Type 0} (d x : A) (xs : List A) → In x xs → Place d x xs
 in-place d x [] h = absurd h
-in-place d x (y ∷ xs) (inl e) = record { i = 0; below = omega arith; is = sym e }
-in-place d x (y ∷ xs) (inr h) = let p = in-place d x xs h in record { i = suc (p .i); below = omega (arith, p .below); is = p .is }
+in-place d x (y ∷ xs) (inl e) = record { at = 0; below = omega arith; is = sym e }
+in-place d x (y ∷ xs) (inr h) = let p = in-place d x xs h in record { at = suc (p .at); below = omega (arith, p .below); is = p .is }
+
+pub place-in : {A : Type 0} {d x : A} {xs : List A} → Place d x xs → In x xs
+place-in {d = d} {xs = xs} p = subst (λ y. In y xs) (p .is) (in-at d xs (p .at) (p .below))
 
 -- ---- what passes a test
 module _ {A : Type 0} (test : A → Bool) (x : A) (l : List A) where

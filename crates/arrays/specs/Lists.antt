@@ -4,7 +4,8 @@ use mathlib.Core.Bool.{Bool, cond}
 use mathlib.Core.Logic.{_⊎_}
 use mathlib.Core.List.{List, [], _∷_}
 use mathlib.Core.Option.{Option, none, some}
-use Prim.Native.Nat.{ℕ, zero, suc}
+use Prim.Native.Nat.{ℕ, zero, suc, _<_}
+use lib.ListN.{length, getD}
 
 -- i, i + 1, .., n of them
 unfoldable pub countUp : ℕ → ℕ → List ℕ
@@ -15,6 +16,12 @@ countUp i (suc n) = i ∷ countUp (suc i) n
 abbrev pub In : {A : Type 0} → A → List A → Type 0
 In x [] = ⊥
 In x (y ∷ ys) = (x ≡ y) ⊎ In x ys
+
+-- a place where it stands; d is what stands past the end
+pub record Place {A : Type 0} (d x : A) (xs : List A) : Type 0 where
+  pub at : ℕ
+  pub below : at < length xs
+  pub is : getD xs at d ≡ x
 
 -- the elements that pass the test
 unfoldable pub keep : {A : Type 0} → (A → Bool) → List A → List A

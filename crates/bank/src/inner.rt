@@ -4,6 +4,7 @@ use bank_atom::ATOM_TOKENS;
 use bank_parts::COST_NUMBERS;
 use bank_push::WORK_WORDS;
 use limits::ATOMS_MAX;
+use probe_points::POINTS;
 use probe_points::Point;
 use row_gates::ROW_WORDS;
 ghost use mathlib.Core.Path.{_≡_};
@@ -56,7 +57,7 @@ fn points_reach(points: [Point; 16], nv: usize, w: u32) -> bool
     ensures { λ r. ⌜ r ≡ pointsReach (2 ^ w) nv points ⌝ }
 {
     let mut k: usize = 0;
-    while k < 16 {
+    while k < POINTS {
         let p = points[k];
         if point_reaches(p, nv, w) {
             return true;

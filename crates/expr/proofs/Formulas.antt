@@ -12,7 +12,8 @@ use Rattle.expr.specs.declared.Token.the-variants.{Constant, Variable, B
 use Rattle.expr.specs.Formula.{Alg, whole, orElse, isFormula}
 use Rattle.expr.specs.Tree.{Tree, written, within, fold}
 use Rattle.expr.specs.Tree.Tree.{constant, variable, inverted, negated, gated}
-use Rattle.expr.proofs.Machine.{and-both, passed}
+use Rattle.limits.proofs.Refusals.{and-both}
+use Rattle.expr.proofs.Machine.{passed}
 use Rattle.expr.proofs.Trees.{whole-tree, Formed, formed, formula-is-tree, tree-is-formula}
 
 -- ---- at any algebra: what is read of f Not, f Neg, f g gate

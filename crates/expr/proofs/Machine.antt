@@ -9,7 +9,7 @@ use borrow.Author.Tests.{lt-ltb, le-ltb, ne-eqb, ltb-true}
 use lib.Dec.{eqb}
 use lib.ListN.{length}
 use Rattle.limits.specs.Refusal.{outsideOf}
-use Rattle.limits.proofs.Refusals.{true-not-false, within}
+use Rattle.limits.proofs.Refusals.{and-left, and-right, and-both, true-not-false, within}
 use Rattle.expr.specs.declared.Token.{Token}
 use Rattle.expr.specs.declared.Token.the-variants.{Constant, Variable, Binary, Not, Neg, Bad}
 use Rattle.expr.specs.Formula.{Alg, step, run, only, whole, Mark, markAlg, isSome, leavesOne, known, allKnown, isFormula, arity}
@@ -17,17 +17,6 @@ use Rattle.expr.specs.Formula.Mark.{mark}
 
 pub none≢some : {A : Type 0} {a : A} → _≡_ {A = Option A} none (some a) → ⊥
 none≢some {a} e = let z : _≡_ {A = ℕ} 0 1 = cc in omega arith
-
-pub and-left : (a b : Bool) → (a && b) ≡ true → a ≡ true
-and-left true b h = refl
-and-left false b h = h
-
-pub and-right : (a b : Bool) → (a && b) ≡ true → b ≡ true
-and-right true b h = h
-and-right false b h = absurd (true-not-false (sym h))
-
-pub and-both : {a b : Bool} → a ≡ true → b ≡ true → (a && b) ≡ true
-and-both {a} {b} h k = ap (λ (x : Bool). x && b) h ∙ k
 
 -- ---- one token
 module _ {A : Type 0} (m : Alg A) (t : Token) (ts : List Token) (st : List A) where

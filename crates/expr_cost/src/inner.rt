@@ -9,6 +9,9 @@ ghost use Prim.Native.Nat.{max};
 ghost use Rattle.expr_cost.specs.Cost.{leafInfo, underUnary, underGate, isNonlinear, infoUnary, infoGate, Roomy};
 ghost use Rattle.expr_cost.specs.Span.{Ends, Under, spanLeaf, spanUnary, spanGate, costBefore};
 
+// What a Mul with a variable under both operands adds to the size.
+const PRODUCT_SIZE: u32 = 3;
+
 // A cost, with the place where its formula begins.
 pub struct SpanCost {
     pub info: CostInfo,
@@ -96,7 +99,7 @@ impl Cost {
         let depth = deeper(self.depth, other.depth) + 1;
         if nonlinear {
             Cost {
-                size: self.size + other.size + 3,
+                size: self.size + other.size + PRODUCT_SIZE,
                 products: self.products + other.products + 1,
                 depth,
             }

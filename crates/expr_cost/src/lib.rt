@@ -28,7 +28,7 @@ pub struct CostAnswer {
 pub fn compute_cost(nv: u32, count: usize, ops: &[u8], operands: &[u64]) -> CostAnswer
     ensures { λ r. ⌜ r ≡ costed nv count (now (ops .entry)) (now (operands .entry)) ⌝ }
 {
-    if limits::inner::outside(nv, 1, 6) {
+    if limits::inner::bad_count(nv) {
         return cost_refused(1);
     }
     if expr::inner::too_short(count, ops, operands) {

@@ -17,7 +17,8 @@ use Rattle.expr.specs.declared.Token.{Token}
 use Rattle.expr.specs.declared.Token.the-variants.{Constant, Variable, Binary, Not, Neg, Bad}
 use Rattle.expr.specs.Formula.{tokenAt, tokens, step, run, only, whole, orElse, known, allKnown, isFormula}
 use Rattle.expr.proofs.Tokens.{tokens-length, tokens-next}
-use Rattle.expr.proofs.Machine.{none≢some, and-left, and-right, passed}
+use Rattle.limits.proofs.Refusals.{and-left, and-right}
+use Rattle.expr.proofs.Machine.{none≢some, passed}
 use Rattle.expr.proofs.Trees.{whole-tree, formed}
 use Rattle.expr_eval.specs.Value.{valueAlg, valueOf}
 

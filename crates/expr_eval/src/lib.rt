@@ -14,10 +14,10 @@ pub enum Value {
 pub fn eval(nv: u32, w: u32, count: usize, ops: &[u8], operands: &[u64], words: &[u64]) -> Value
     ensures { λ r. ⌜ valueSays r ≡ evaluated nv w count (now (ops .entry)) (now (operands .entry)) (now (words .entry)) ⌝ }
 {
-    if limits::inner::outside(nv, 1, 6) {
+    if limits::inner::bad_count(nv) {
         return Value::Refused(1);
     }
-    if limits::inner::outside(w, 1, 64) {
+    if limits::inner::bad_width(w) {
         return Value::Refused(2);
     }
     if expr::inner::too_short(count, ops, operands) {

@@ -20,7 +20,7 @@ use Rattle.arrays.specs.Lists.{countUp, In}
 use Rattle.index_spec.specs.Index.{Trial, Pair, Index, holds, firstC, trialsUpTo, trialsWith, trialsOfGate, trialsOf, trialRow, pairOf, rowsIn, addNew, allPairs, indexOf}
 use Rattle.index_spec.specs.Trials.{listed, ended, tryPair, tryAll, noPairs, triedOf}
 use Rattle.index_spec.specs.Facts.{Holds, noPair, SoundPair, SoundPairs, NoneLost, IndexIsSound, AtMostLimit, UncutLosesNone, ByTrials, FirstPairs, AllAreSound, AllLoseNone}
-use Rattle.arrays.proofs.Lists.{false-true, bool-cases, in-left, in-right, in-map, map-in, in-flat, flat-in, in-count, count-in, in-at, in-place}
+use Rattle.arrays.proofs.Lists.{false-true, bool-cases, in-left, in-right, in-map, map-in, in-flat, flat-in, in-count, count-in, in-at, in-place, place-in}
 
 -- ---- rows that are held
 pub holds-in : (rs : List (List ℕ)) (r : List ℕ) → holds rs r ≡ true → In r rs
@@ -44,12 +44,6 @@ in-holds (x ∷ rs) r (inr h) = go (sameRow x r) (in-holds rs r h)
 
 pub not-in-holds : (rs : List (List ℕ)) (r : List ℕ) → (In r rs → ⊥) → holds rs r ≡ false
 not-in-holds rs r n = elim (bool-cases (holds rs r)) [ inl y ↦ absurd (n (holds-in rs r y)) | inr f ↦ f ]
-
-in-slot : (rs : List (List ℕ)) (r : List ℕ) → In r rs → Holds rs r
-in-slot rs r h = let p = in-place [] r rs h in record { slot = p .i; below = p .below; same = p .is }
-
-slot-in : (rs : List (List ℕ)) (r : List ℕ) → Holds rs r → In r rs
-slot-in rs r h = subst (λ (x : List ℕ). In x rs) (h .same) (in-at [] rs (h .slot) (h .below))
 
 -- ---- the trials: every gate with every two atoms, or the row is an atom's
 in-trials : (gates : List Gate) (n : ℕ) (g : Gate) (b c : ℕ) → In g gates → b < n → firstC g b ≤ c → c < n → In (record { gate = g; b = b; c = c }) (trialsOf gates n)
@@ -173,7 +167,7 @@ module _ (w : ℕ) (gates : List Gate) (bank : List (List ℕ)) where
         ordered = tried .up;
         below = tried .low;
         row = refl;
-        new = λ h. false-true (sym fresh ∙ in-holds bank _ (slot-in bank _ h));
+        new = λ h. false-true (sym fresh ∙ in-holds bank _ (place-in h));
       }
 
   sound-none : SoundPairs w gates bank []
@@ -338,7 +332,7 @@ module _ (w L : ℕ) (gates : List Gate) (bank : List (List ℕ)) (uncut : tried
 
   tried-kept : (t : Trial) → In t (trialsOf gates (length bank)) → Kept (trialRow w bank t)
   unfolding triedOf
-  tried-kept t h = elim (covers w L bank (trialsOf gates (length bank)) noPairs uncut t h) [ inl a ↦ inl (in-slot bank _ a) | inr p ↦ inr (in-slot _ _ p) ]
+  tried-kept t h = elim (covers w L bank (trialsOf gates (length bank)) noPairs uncut t h) [ inl a ↦ inl (in-place [] _ bank a) | inr p ↦ inr (in-place [] _ _ p) ]
 
   none-lost : NoneLost w gates bank (triedOf w L gates bank .pairs)
   unfolding trialRow
@@ -354,7 +348,7 @@ module _ (w L : ℕ) (gates : List Gate) (bank : List (List ℕ)) (uncut : tried
       same : Kept (gateRow g w (getD bank b []) (getD bank b []))
       same = elim (itself gates w (length bank) (getD bank b []) g b i hb) [
         | inl t ↦ tried-kept (record { gate = g; b = b; c = b }) t
-        | inr e ↦ inl (in-slot bank _ (subst (λ (r : List ℕ). In r bank) (sym e) (in-at [] bank b hb)))
+        | inr e ↦ inl (in-place [] _ bank (subst (λ (r : List ℕ). In r bank) (sym e) (in-at [] bank b hb)))
       ]
 
 pub uncut-loses-none : UncutLosesNone

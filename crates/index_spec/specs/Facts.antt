@@ -8,15 +8,13 @@ use lib.ListN.{length, getD, take}
 use Rattle.row_gates.specs.Gates.{gateRow}
 use Rattle.row_gates.specs.declared.Gate.{Gate}
 use Rattle.row_gates.specs.declared.Gate.the-variants.{And}
-use Rattle.arrays.specs.Lists.{In}
+use Rattle.arrays.specs.Lists.{In, Place}
 use Rattle.index_spec.specs.Index.{Pair, indexOf, rowsIn, allPairs}
 use Rattle.index_spec.specs.Trials.{triedOf}
 
 -- some slot has the row
-pub record Holds (rows : List (List ℕ)) (row : List ℕ) : Type 0 where
-  pub slot : ℕ
-  pub below : slot < length rows
-  pub same : getD rows slot [] ≡ row
+abbrev pub Holds : List (List ℕ) → List ℕ → Type 0
+Holds rows row = Place [] row rows
 
 -- what stands past an index's end
 abbrev pub noPair : Pair

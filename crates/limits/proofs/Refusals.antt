@@ -1,7 +1,7 @@
 -- Laws of refusals. Assumes nothing.
-use mathlib.Core.Path.{_≡_, refl, ap, _∙_}
+use mathlib.Core.Path.{_≡_, refl, sym, ap, _∙_}
 use mathlib.Core.Logic.{_⊎_, inl, inr}
-use mathlib.Core.Bool.{Bool, true, false, _||_, cond}
+use mathlib.Core.Bool.{Bool, true, false, _&&_, _||_, cond}
 use Prim.Native.Nat.{ℕ, _*_, _/_, _≤_, _<_}
 use native.Mathlib.Decide.{decLt, decLe}
 use native.Mathlib.Nat.{div-lt-iff-lt-mul, lt-of-not-le, mul-comm}
@@ -49,6 +49,19 @@ pub passed : (b : Bool) (number rest : ℕ) → 0 < number → refuse b number r
 passed true number rest h e = absurd (omega arith)
 passed false number rest h e = (refl, e)
 
+-- tests joined by `and` that pass
+pub and-both : {a b : Bool} → a ≡ true → b ≡ true → (a && b) ≡ true
+and-both {a} {b} h k = ap (λ (x : Bool). x && b) h ∙ k
+
+pub and-left : (a b : Bool) → (a && b) ≡ true → a ≡ true
+and-left true b h = refl
+and-left false b h = h
+
+pub and-right : (a b : Bool) → (a && b) ≡ true → b ≡ true
+and-right true b h = h
+and-right false b h = absurd (true-not-false (sym h))
+
+-- and tests joined by `or` that did not
 pub neither : (a b : Bool) → (a || b) ≡ false → (a ≡ false) × (b ≡ false)
 neither true b e = absurd (true-not-false e)
 neither false b e = (refl, e)

@@ -5,6 +5,8 @@ use bank_parts::COST_NUMBERS;
 use bank_push::WORK_WORDS;
 use index_spec::PAIR_WORDS;
 use limits::ATOMS_MAX;
+use probe_points::POINT_WORDS;
+use probe_points::POINTS;
 use probe_points::Point;
 use row_gates::ROW_WORDS;
 ghost use mathlib.Core.Path.{_≡_};
@@ -27,7 +29,13 @@ const PAIRS_MAX: usize = 500;
 // The words of the work area of bank and index.
 const AREA_WORDS: usize = 4 * (PAIRS_MAX + ATOMS_MAX);
 
-// Where the points begin among the numbers: after the variable count, the width and L.
+// Where the variable count, the width, L and the points stand among the numbers.
+const COUNT_AT: usize = 0;
+
+const WIDTH_AT: usize = 1;
+
+const LIMIT_AT: usize = 2;
+
 const POINTS_AT: usize = 3;
 
 // A point of nv words from `base` on, zeros past them.
@@ -35,7 +43,7 @@ fn point_of(numbers: [u64; 115], base: usize, nv: usize) -> Point
     requires { ⌜ (nv ≤ 6) × (base + nv ≤ 115) ⌝ }
     ensures { λ r. ⌜ r ≡ pointFrom numbers base nv ⌝ }
 {
-    let mut words = [0u64; 6];
+    let mut words = [0u64; POINT_WORDS];
     let mut i: usize = 0;
     while i < nv {
         words[i] = numbers[base + i];
@@ -49,10 +57,12 @@ fn points_of(numbers: [u64; 115], nv: usize) -> [Point; 16]
     requires { ⌜ (nv ≡ countOf numbers) × (nv ≤ 6) ⌝ }
     ensures { λ r. ⌜ r ≡ pointsOf numbers ⌝ }
 {
-    let mut points = [Point { words: [0; 6] }; 16];
+    let mut points = [Point {
+        words: [0; POINT_WORDS],
+    }; POINTS];
     let mut base = POINTS_AT;
     let mut k: usize = 0;
-    while k < ROW_WORDS {
+    while k < POINTS {
         let p = point_of(numbers, base, nv);
         points[k] = p;
         base += nv;
@@ -67,7 +77,7 @@ fn target_of(numbers: [u64; 115], nv: usize) -> [u64; 16]
     ensures { λ r. ⌜ r ≡ targetOf numbers ⌝ }
 {
     let base = POINTS_AT + ROW_WORDS * nv;
-    let mut row = [0u64; 16];
+    let mut row = [0u64; ROW_WORDS];
     let mut i: usize = 0;
     while i < ROW_WORDS {
         row[i] = numbers[base + i];
@@ -91,7 +101,7 @@ fn reach_refusal(numbers: [u64; 115]) -> u32
     requires { ⌜ InRange numbers ⌝ }
     ensures { λ r. ⌜ r ≡ reachRefusal numbers ⌝ }
 {
-    let nv = numbers[0] as usize;
+    let nv = numbers[COUNT_AT] as usize;
     let points = points_of(numbers, nv);
     let target = target_of(numbers, nv);
     let sizes = Sizes {
@@ -102,20 +112,20 @@ fn reach_refusal(numbers: [u64; 115]) -> u32
         rows: ROW_WORDS * ATOMS_MAX,
         work: WORK_WORDS,
     };
-    bank::inner::bank_refusal(nv as u32, numbers[1] as u32, points, target, sizes)
+    bank::inner::bank_refusal(nv as u32, numbers[WIDTH_AT] as u32, points, target, sizes)
 }
 
 // The refusal of the numbers of a text, 0 where there is none. Of a variable count above 6 nothing past the first number is read.
 pub fn refusal_of(numbers: [u64; 115]) -> u32
     ensures { λ r. ⌜ r ≡ numbersRefusal numbers ⌝ }
 {
-    if outside(numbers[0], 1, limits::MAX_VARS as u64) {
+    if outside(numbers[COUNT_AT], 1, limits::MAX_VARS as u64) {
         return 1;
     }
-    if outside(numbers[1], 1, limits::MAX_WIDTH as u64) {
+    if outside(numbers[WIDTH_AT], 1, limits::MAX_WIDTH as u64) {
         return 2;
     }
-    if LIMIT_MAX < numbers[2] {
+    if LIMIT_MAX < numbers[LIMIT_AT] {
         return 3;
     }
     reach_refusal(numbers)
@@ -226,14 +236,14 @@ pub fn list_numbers(out: &mut [u8], numbers: [u64; 115]) -> usize
     ensures { λ r. ⌜ Wrote (now (out .entry)) 0 (now (out .exit)) r (textFor numbers) ⌝ }
     ensures { λ r. ⌜ r ≤ textMax ⌝ }
 {
-    let nv = numbers[0] as usize;
+    let nv = numbers[COUNT_AT] as usize;
     let points = points_of(numbers, nv);
     let target = target_of(numbers, nv);
     list_bank(
         out,
         nv as u32,
-        numbers[1] as u32,
-        numbers[2] as usize,
+        numbers[WIDTH_AT] as u32,
+        numbers[LIMIT_AT] as usize,
         points,
         target,
     )

@@ -9,7 +9,7 @@ use Rattle.expr.specs.declared.Token.{Token}
 use Rattle.expr.specs.Formula.{orElse, isFormula}
 use Rattle.expr.specs.Tree.{Tree, written, within, fold}
 use Rattle.expr.specs.Tree.Tree.{constant, variable, inverted, negated, gated}
-use Rattle.expr.proofs.Machine.{and-left, and-right}
+use Rattle.limits.proofs.Refusals.{and-left, and-right}
 use Rattle.expr.proofs.Trees.{whole-tree, formula-is-tree}
 use Rattle.expr_eval.specs.Value.{valueAlg, valueOf}
 use Rattle.probe_points.specs.declared.Point.{Point}

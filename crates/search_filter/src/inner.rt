@@ -217,7 +217,7 @@ fn settle_tail(
     requires { ⌜ Ordered n (now rows) (now order) × Sampled n (now rows) (now order) (now samples) m × Small class × KeysPassed class n (now rows) (now order) at ⌝ }
     ensures { λ r. ⌜ FirstOf (inClass class (now (rows .entry))) n (now (order .entry)) at r ⌝ }
 {
-    if class.w == 64 {
+    if class.w == limits::MAX_WIDTH {
         return n;
     }
     if at == n {

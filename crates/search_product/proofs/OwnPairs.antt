@@ -146,15 +146,15 @@ module _ {w count : ℕ} {atoms : List ℕ} {L : ℕ} (fit : Fit w count atoms L
     -- uncut, each gate's row of two atoms is an atom's or a pair's
     atom-has : (row : List ℕ) → Holds bank row → Has count atoms row
     atom-has row h =
-        let l : h .slot < count = omega (arith, h .below, length-rowsOf count atoms) in
-        record { slot = h .slot; below = l; is = sym (rows-at count atoms (h .slot) l) ∙ h .same }
+        let l : h .at < count = omega (arith, h .below, length-rowsOf count atoms) in
+        record { slot = h .at; below = l; is = sym (rows-at count atoms (h .at) l) ∙ h .is }
 
     pair-has : (row : List ℕ) → Holds (rowsIn pairs) row → Has n listed row
     unfolding rowsIn
     pair-has row h =
-        let l : h .slot < length pairs = omega (arith, h .below, rows-length pairs) in
-        let b : h .slot < n = omega (arith, own .count-is) in
-        record { slot = h .slot; below = b; is = pair-row (h .slot) b ∙ sym (getD-map (λ (p : Pair). p .row) pairs (h .slot) noPair [] l) ∙ h .same }
+        let l : h .at < length pairs = omega (arith, h .below, rows-length pairs) in
+        let b : h .at < n = omega (arith, own .count-is) in
+        record { slot = h .at; below = b; is = pair-row (h .at) b ∙ sym (getD-map (λ (p : Pair). p .row) pairs (h .at) noPair [] l) ∙ h .is }
 
     pub none-lost : Uncut w count atoms L → (g : Gate) (b c : ℕ) → b < count → c < count
         → Has count atoms (gateRow g w (partAt 16 atoms b) (partAt 16 atoms c)) ⊎ Has n listed (gateRow g w (partAt 16 atoms b) (partAt 16 atoms c))
@@ -164,8 +164,8 @@ module _ {w count : ℕ} {atoms : List ℕ} {L : ℕ} (fit : Fit w count atoms L
         let whole : lentIndex w count atoms L .cut ≡ false = le-ltb L (length (allPairs w allGates bank)) uncut in
         let e : gateRow g w (getD bank b []) (getD bank c []) ≡ gateRow g w (partAt 16 atoms b) (partAt 16 atoms c) = ap₂ (gateRow g w) (rows-at count atoms b hb) (rows-at count atoms c hc) in
         elim (uncut-loses-none w L allGates bank whole g (all-gates g) b c (omega arith) (omega arith)) [
-          | inl h ↦ inl (atom-has _ (record { slot = h .slot; below = h .below; same = h .same ∙ e }))
-          | inr h ↦ inr (pair-has _ (record { slot = h .slot; below = h .below; same = h .same ∙ e }))
+          | inl h ↦ inl (atom-has _ (record { at = h .at; below = h .below; is = h .is ∙ e }))
+          | inr h ↦ inr (pair-has _ (record { at = h .at; below = h .below; is = h .is ∙ e }))
         ]
 
 -- ---- what a build left

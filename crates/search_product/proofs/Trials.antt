@@ -57,7 +57,7 @@ module _ (w p t n : ℕ) (listed : List ℕ) where
   order-in s h =
       let o = in-place 0 s (orderOf n listed) h in
       let l = order-length n listed in
-      subst (λ (k : ℕ). k < n) (o .is) (order-below n listed (orderOf n listed) (order-exactly n listed (orderOf n listed) .it-does refl) (o .i) (omega (arith, o .below)))
+      subst (λ (k : ℕ). k < n) (o .is) (order-below n listed (orderOf n listed) (order-exactly n listed (orderOf n listed) .it-does refl) (o .at) (omega (arith, o .below)))
 
   pub in-slots : (s : ℕ) → s < n → In s (slotsFor w p t n listed)
   unfolding slotsFor

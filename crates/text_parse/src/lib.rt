@@ -42,8 +42,9 @@ pub struct Input {
 pub fn begin() -> Parse
     ensures { λ r. ⌜ Reads r [] ⌝ }
 {
+    let numbers = [0u64; NUMBERS_MAX];
     Parse {
-        numbers: [0; NUMBERS_MAX],
+        numbers,
         count: 0,
         value: 0,
         within: false,

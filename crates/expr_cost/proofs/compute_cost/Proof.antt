@@ -12,8 +12,8 @@ use Rattle.expr_cost.proofs.Spans.{whole-ends, whole-cost}
 use Rattle.expr_cost.proofs.compute_cost.Statement.{statement}
 use Rattle.expr_cost.proofs.compute_cost.Tie as tie
 
-outside-requires : tie.Need-outside-requires
-outside-requires c κs = search needs
+bad-count-requires : tie.Need-bad-count-requires
+bad-count-requires c κs = search needs
 
 cost-refused-requires : tie.Need-cost-refused-requires
 cost-refused-requires c κs = search needs
@@ -21,7 +21,7 @@ cost-refused-requires c κs = search needs
 returns : tie.Need-returns
 returns c =
     let s = c .before .before .before .before .before .args in
-    let e1 = sym (c .before .if1 .taken) ∙ c .before .before .outside .ensures in
+    let e1 = sym (c .before .if1 .taken) ∙ c .before .before .bad-count .ensures in
     c .cost-refused .ensures ∙ λ i. costOr (refuse (e1 i) 1 (refuse (tooShort (s .count) (s .ops .now) (s .operands .now)) 4 (refuse (notFormula (s .nv) (s .count) (s .ops .now) (s .operands .now)) 6 0))) (costOf (tokens (s .count) (s .ops .now) (s .operands .now)))
 
 too-short-requires : tie.Need-too-short-requires
@@ -33,7 +33,7 @@ cost-refused-requires-2 c κs = search needs
 returns-2 : tie.Need-returns-2
 returns-2 c =
     let s = c .before .before .before .before .before .before .before .args in
-    let e1 = sym (c .before .before .before .if1 .left) ∙ c .before .before .before .before .outside .ensures in
+    let e1 = sym (c .before .before .before .if1 .left) ∙ c .before .before .before .before .bad-count .ensures in
     let e4 = sym (c .before .if2 .taken) ∙ c .before .before .too-short .ensures in
     c .cost-refused2 .ensures ∙ λ i. costOr (refuse (e1 i) 1 (refuse (e4 i) 4 (refuse (notFormula (s .nv) (s .count) (s .ops .now) (s .operands .now)) 6 0))) (costOf (tokens (s .count) (s .ops .now) (s .operands .now)))
 
@@ -51,7 +51,7 @@ cost-refused-requires-3 c κs = search needs
 returns-3 : tie.Need-returns-3
 returns-3 c =
     let s = c .before .before .before .before .before .before .before .before .before .before .args in
-    let e1 = sym (c .before .before .before .before .before .before .if1 .left) ∙ c .before .before .before .before .before .before .before .outside .ensures in
+    let e1 = sym (c .before .before .before .before .before .before .if1 .left) ∙ c .before .before .before .before .before .before .before .bad-count .ensures in
     let e4 = sym (c .before .before .before .before .if2 .left) ∙ c .before .before .before .before .before .too-short .ensures in
     let e6 = sym (c .before .before .if3 .taken) ∙ c .before .before .before .is-formula .ensures in
     let v = ap (λ (x : SpanCost). x .info .cost) (c .before .cost-before .ensures) ∙ whole-cost (s .nv) (s .count) (s .ops .now) (s .operands .now) (sym e6) in
@@ -60,7 +60,7 @@ returns-3 c =
 returns-4 : tie.Need-returns-4
 returns-4 c =
     let s = c .before .before .before .before .before .before .before .before .before .args in
-    let e1 = sym (c .before .before .before .before .before .if1 .left) ∙ c .before .before .before .before .before .before .outside .ensures in
+    let e1 = sym (c .before .before .before .before .before .if1 .left) ∙ c .before .before .before .before .before .before .bad-count .ensures in
     let e4 = sym (c .before .before .before .if2 .left) ∙ c .before .before .before .before .too-short .ensures in
     let e6 = sym (c .before .if3 .left) ∙ c .before .before .is-formula .ensures in
     c .cost-refused3 .ensures ∙ λ i. costOr (refuse (e1 i) 1 (refuse (e4 i) 4 (refuse (not (e6 i)) 6 0))) (costOf (tokens (s .count) (s .ops .now) (s .operands .now)))
@@ -69,7 +69,7 @@ pub compute-cost-spec : {M : Type 1} → statement M
 compute-cost-spec =
     tie.close
     (tie.spec
-    outside-requires
+    bad-count-requires
     cost-refused-requires
     returns
     too-short-requires

@@ -10,8 +10,11 @@ use bank_lookup::FoundRow;
 use expr::Token;
 use expr_eval::Value;
 use index::IndexAnswer;
+use probe_points::POINT_WORDS;
+use probe_points::POINTS;
 use probe_points::Point;
 use row_gates::Match;
+use row_gates::ROW_WORDS;
 use row_gates::RowAnswer;
 use search_candidates::CandidatesAnswer;
 use search_product::ProductAnswer;
@@ -149,16 +152,18 @@ pub fn of_row(x: RowAnswer) -> RowReply
 pub fn refused_row(refusal: u32) -> RowReply
     ensures { λ r. ⌜ r ≡ refusedRow refusal ⌝ }
 {
-    let row = [0u64; 16];
+    let row = [0u64; ROW_WORDS];
     RowReply { refusal, row }
 }
 
 pub fn of_points(made: [Point; 16]) -> [PointWords; 16]
     ensures { λ r. ⌜ r ≡ map pointWords made ⌝ }
 {
-    let mut points = [PointWords { words: [0; 6] }; 16];
+    let mut points = [PointWords {
+        words: [0; POINT_WORDS],
+    }; POINTS];
     let mut k: usize = 0;
-    while k < 16 {
+    while k < POINTS {
         let p = made[k];
         let words = p.words;
         let q = PointWords { words };

@@ -72,7 +72,9 @@ pub fn points_of(words: &[u64]) -> [Point; 16]
     requires { ⌜ 96 ≤ length (now words) ⌝ }
     ensures { λ r. ⌜ r ≡ pointsIn (now (words .entry)) ⌝ }
 {
-    let mut points = [Point { words: [0; 6] }; 16];
+    let mut points = [Point {
+        words: [0; POINT_WORDS],
+    }; POINTS];
     let mut k: usize = 0;
     while k < POINTS {
         let p = point_of(words, k);
