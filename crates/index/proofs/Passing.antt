@@ -1,5 +1,5 @@
 -- Laws of the refusals of a build: what is known where none applies. Assumes nothing.
-use mathlib.Core.Path.{_≡_}
+use mathlib.Core.Path.{_≡_, sym, _∙_}
 use mathlib.Core.Bool.{Bool, false, _||_}
 use Prim.Native.Nat.{ℕ, _+_, _*_, _/_, _≤_}
 use native.Mathlib.Omega.{arith}
@@ -25,9 +25,9 @@ pub record Passed (w count L rows pairs pairRows order work : ℕ) : Type 0 wher
   pub order-fit : L ≤ order
   pub area : 4 * (L + atomsMax) ≤ work
 
-pub none-refused : (w count L rows pairs pairRows order work : ℕ) → refusalOf w count L rows pairs pairRows order work ≡ 0 → Passed w count L rows pairs pairRows order work
-none-refused w count L rows pairs pairRows order work e =
-    let wide = passed (badWidth w) 2 _ (omega arith) e in
+pub none-refused : (w count L rows pairs pairRows order work n : ℕ) → n ≡ refusalOf w count L rows pairs pairRows order work → n ≡ 0 → Passed w count L rows pairs pairRows order work
+none-refused w count L rows pairs pairRows order work n is e =
+    let wide = passed (badWidth w) 2 _ (omega arith) (sym is ∙ e) in
     let most = passed (ltb pairsMax L) 3 _ (omega arith) (wide .1) in
     let short = passed (tooShort count L rows pairs pairRows order work) 4 _ (omega arith) (most .1) in
     let few = passed (tooManyAtoms count) 7 0 (omega arith) (short .1) in

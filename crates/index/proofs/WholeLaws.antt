@@ -101,9 +101,9 @@ module _ (w count : ℕ) (rows : List ℕ) (L : ℕ) (old : Arrays) where
         work-kept = λ _. refl;
       }
 
-  pub made-built : (new : Arrays) (r : Tally) → number ≡ 0 → Made w count L rows (old .pairs) (old .rows) (old .order) (new .pairs) (new .rows) (new .order) r
+  pub made-built : (new : Arrays) (r : Tally) (n : ℕ) → n ≡ number → n ≡ 0 → Made w count L rows (old .pairs) (old .rows) (old .order) (new .pairs) (new .rows) (new .order) r
       → IndexBuilt w count rows L old new (Built (r .pairs) (r .cut))
-  made-built new r none made = record {
+  made-built new r n is zero′ made = record {
     says = ap₂ (λ (n : ℕ) (b : Bool). answer (summary n b)) (made .count-is) (made .mark-is) ∙ sym (unless-not number _ _ none);
     pairs = made .pairs-are ∙ sym (unless-not number _ _ none);
     rows-are = made .rows-are ∙ sym (unless-not number _ _ none);
@@ -111,6 +111,9 @@ module _ (w count : ℕ) (rows : List ℕ) (L : ℕ) (old : Arrays) where
     work-kept = λ h. absurd (omega arith);
   }
     where
+      none : number ≡ 0
+      none = sym is ∙ zero′
+
       summary : ℕ → Bool → Summary
       summary n b = record { pairs = n; cut = b }
 

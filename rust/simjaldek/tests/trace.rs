@@ -1,8 +1,9 @@
-//! docs/TRACE.md names what is there: each must-fail edit and each module that it cites, and no cell is empty.
+//! docs/TRACE.md names what is there: each must-fail edit, each crate's mutants and each module that it cites, and no cell is empty.
 
 use std::path::{Path, PathBuf};
 
 const TRACE: &str = include_str!("../../../docs/TRACE.md");
+const MUTANTS: &str = include_str!("../../../docs/MUTANTS.md");
 
 fn crates() -> PathBuf {
     Path::new(env!("CARGO_MANIFEST_DIR")).join("../../crates")
@@ -29,7 +30,23 @@ fn edits() {
             count += 1;
         }
     }
-    assert!(count > 100, "{count}");
+    assert!(count > 60, "{count}");
+}
+
+/// Mutants of A, B: docs/MUTANTS.md has a row for each.
+#[test]
+fn mutants() {
+    let mut count = 0;
+    let rows = TRACE.lines().filter(|line| line.starts_with('|'));
+    for names in rows.filter_map(|row| row.split_once("mutants of ")) {
+        let names = names.1.split(['|', ';']).next().expect("a name");
+        for krate in names.split(',').map(str::trim) {
+            assert!(crates().join(krate).is_dir(), "{krate}");
+            assert!(MUTANTS.contains(&format!("| {krate} |")), "{krate}");
+            count += 1;
+        }
+    }
+    assert!(count > 40, "{count}");
 }
 
 /// `name` (crate Module): the module is one of the crate's specs/ or proofs/, and has the name.

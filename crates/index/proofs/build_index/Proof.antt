@@ -24,7 +24,7 @@ build-requires c κs =
     let a = s .args in
     let none : c .before .before .before .before .before .refusal-of .result ≡ 0 = omega (arith, c .before .before .before .before .if1 .left) in
     let passed = none-refused (a .w) (a .count) (a .limit) (length (a .rows .now)) (length (a .pairs .now)) (length (a .listed .now)) (length (a .slots .now)) (length (a .work .now))
-    (sym (c .before .before .before .before .before .refusal-of .ensures) ∙ none) in
+    (c .before .before .before .before .before .refusal-of .result) (c .before .before .before .before .before .refusal-of .ensures) none in
     fits-of (a .rows .now) (a .work .now) (a .pairs .now) (a .listed .now) (a .slots .now) passed
 
 cast-t25 : tie.Need-cast-t25
@@ -33,7 +33,7 @@ cast-t25 c =
     let a = s .args in
     let none : c .before .before .before .before .before .before .before .before .before .before .before .before .before .before .before .refusal-of .result ≡ 0 = omega (arith, c .before .before .before .before .before .before .before .before .before .before .before .before .before .before .if1 .left) in
     let passed = none-refused (a .w) (a .count) (a .limit) (length (a .rows .now)) (length (a .pairs .now)) (length (a .listed .now)) (length (a .slots .now)) (length (a .work .now))
-    (sym (c .before .before .before .before .before .before .before .before .before .before .before .before .before .before .before .refusal-of .ensures) ∙ none) in
+    (c .before .before .before .before .before .before .before .before .before .before .before .before .before .before .before .refusal-of .result) (c .before .before .before .before .before .before .before .before .before .before .before .before .before .before .before .refusal-of .ensures) none in
     omega (arith, passed .most, c .before .before .before .before .before .before .before .before .before .build .ensures .within)
 
 same-length : tie.Need-same-length
@@ -54,9 +54,9 @@ returns-2 c =
     let a = s .args in
     let none : c .before .before .before .before .before .before .before .before .before .before .before .before .before .before .before .refusal-of .result ≡ 0 = omega (arith, c .before .before .before .before .before .before .before .before .before .before .before .before .before .before .if1 .left) in
     let passed = none-refused (a .w) (a .count) (a .limit) (length (a .rows .now)) (length (a .pairs .now)) (length (a .listed .now)) (length (a .slots .now)) (length (a .work .now))
-    (sym (c .before .before .before .before .before .before .before .before .before .before .before .before .before .before .before .refusal-of .ensures) ∙ none) in
+    (c .before .before .before .before .before .before .before .before .before .before .before .before .before .before .before .refusal-of .result) (c .before .before .before .before .before .before .before .before .before .before .before .before .before .before .before .refusal-of .ensures) none in
     made-built (a .w) (a .count) (a .rows .now) (a .limit) (arraysOf (a .pairs .now) (a .listed .now) (a .slots .now) (a .work .now)) _ (c .before .before .before .before .before .before .before .before .before .build .result)
-    (sym (c .before .before .before .before .before .before .before .before .before .before .before .before .before .before .before .refusal-of .ensures) ∙ none) (c .before .before .before .before .before .before .before .before .before .build .ensures)
+    (c .before .before .before .before .before .before .before .before .before .before .before .before .before .before .before .refusal-of .result) (c .before .before .before .before .before .before .before .before .before .before .before .before .before .before .before .refusal-of .ensures) none (c .before .before .before .before .before .before .before .before .before .build .ensures)
 
 pub build-index-spec : {M : Type 1} → statement M
 build-index-spec =

@@ -4,7 +4,7 @@ use native.Mathlib.Omega.{arith}
 use borrow.Author.Needs.{needs}
 use borrow.Author.Tests.{not-true, not-false}
 use Rattle.search_equation.proofs.Solutions.{solved-class, solved-none}
-use Rattle.search_candidates.proofs.Answering.{none-refused, class-small, refused-collected, unused-collected, none-collected, class-collected}
+use Rattle.search_candidates.proofs.Answering.{zero-of, none-refused, class-small, refused-collected, unused-collected, none-collected, class-collected}
 use Rattle.search_candidates.proofs.collect_mul_probe0_candidates.Statement.{statement}
 use Rattle.search_candidates.proofs.collect_mul_probe0_candidates.Tie as tie
 
@@ -28,13 +28,13 @@ same-length-2 c = search needs
 returns-2 : tie.Need-returns-2
 returns-2 c =
     let a = c .before .before .before .before .before .before .before .before .args in
-    let ok = sym (c .before .before .before .candidates-refusal .ensures) ∙ c .before .before .if1 .left in
+    let ok = zero-of (a .w) (a .pairs) (a .listed .now) (a .slots .now) (a .p) (a .t) (a .list .now) (c .before .before .before .candidates-refusal .result) (c .before .before .before .candidates-refusal .ensures) (c .before .before .if1 .left) in
     unused-collected (a .w) (a .pairs) (a .listed .now) (a .slots .now) (a .p) (a .t) (a .list .now) ok (sym (c .before .is-used .ensures) ∙ not-true _ (c .if2 .taken))
 
 solve-requires : tie.Need-solve-requires
 solve-requires c κs =
     let a = c .before .before .before .before .before .before .before .before .args in
-    let ok = sym (c .before .before .before .candidates-refusal .ensures) ∙ c .before .before .if1 .left in
+    let ok = zero-of (a .w) (a .pairs) (a .listed .now) (a .slots .now) (a .p) (a .t) (a .list .now) (c .before .before .before .candidates-refusal .result) (c .before .before .before .candidates-refusal .ensures) (c .before .before .if1 .left) in
     let passed = none-refused (a .w) (a .pairs) (a .listed .now) (a .slots .now) (a .p) (a .t) (a .list .now) ok in
     record {
       width = passed .width;
@@ -55,14 +55,14 @@ same-length-3 c = search needs
 returns-3 : tie.Need-returns-3
 returns-3 c =
     let a = c .before .before .before .before .before .before .before .before .before .before .before .args in
-    let ok = sym (c .before .before .before .before .before .before .candidates-refusal .ensures) ∙ c .before .before .before .before .before .if1 .left in
+    let ok = zero-of (a .w) (a .pairs) (a .listed .now) (a .slots .now) (a .p) (a .t) (a .list .now) (c .before .before .before .before .before .before .candidates-refusal .result) (c .before .before .before .before .before .before .candidates-refusal .ensures) (c .before .before .before .before .before .if1 .left) in
     let is-used = sym (c .before .before .before .before .is-used .ensures) ∙ not-false _ (c .before .before .before .if2 .left) in
     none-collected (a .w) (a .pairs) (a .listed .now) (a .slots .now) (a .p) (a .t) (a .list .now) ok is-used (solved-none (c .before .before .solve .ensures) (c .enum-told .given .1))
 
 collect-requires : tie.Need-collect-requires
 collect-requires c κs =
     let a = c .before .before .before .before .before .before .before .before .before .before .before .before .before .args in
-    let ok = sym (c .before .before .before .before .before .before .before .before .candidates-refusal .ensures) ∙ c .before .before .before .before .before .before .before .if1 .left in
+    let ok = zero-of (a .w) (a .pairs) (a .listed .now) (a .slots .now) (a .p) (a .t) (a .list .now) (c .before .before .before .before .before .before .before .before .candidates-refusal .result) (c .before .before .before .before .before .before .before .before .candidates-refusal .ensures) (c .before .before .before .before .before .before .before .if1 .left) in
     let passed = none-refused (a .w) (a .pairs) (a .listed .now) (a .slots .now) (a .p) (a .t) (a .list .now) ok in
     let class = solved-class (c .before .before .before .before .solve .ensures) (c .before .before .bits .given .1) in
     (passed .ordered, class-small (passed .width) class, passed .room)
@@ -70,7 +70,7 @@ collect-requires c κs =
 cast-t20 : tie.Need-cast-t20
 cast-t20 c =
     let a = c .before .before .before .before .before .before .before .before .before .before .before .before .before .before .before .before .args in
-    let ok = sym (c .before .before .before .before .before .before .before .before .before .before .before .candidates-refusal .ensures) ∙ c .before .before .before .before .before .before .before .before .before .before .if1 .left in
+    let ok = zero-of (a .w) (a .pairs) (a .listed .now) (a .slots .now) (a .p) (a .t) (a .list .now) (c .before .before .before .before .before .before .before .before .before .before .before .candidates-refusal .result) (c .before .before .before .before .before .before .before .before .before .before .before .candidates-refusal .ensures) (c .before .before .before .before .before .before .before .before .before .before .if1 .left) in
     let passed = none-refused (a .w) (a .pairs) (a .listed .now) (a .slots .now) (a .p) (a .t) (a .list .now) ok in
     omega (arith, passed .ordered .most, c .before .before .collect .ensures .within)
 
@@ -80,7 +80,7 @@ same-length-4 c = search needs
 returns-4 : tie.Need-returns-4
 returns-4 c =
     let a = c .before .before .before .before .before .before .before .before .before .before .before .before .before .before .before .before .args in
-    let ok = sym (c .before .before .before .before .before .before .before .before .before .before .before .candidates-refusal .ensures) ∙ c .before .before .before .before .before .before .before .before .before .before .if1 .left in
+    let ok = zero-of (a .w) (a .pairs) (a .listed .now) (a .slots .now) (a .p) (a .t) (a .list .now) (c .before .before .before .before .before .before .before .before .before .before .before .candidates-refusal .result) (c .before .before .before .before .before .before .before .before .before .before .before .candidates-refusal .ensures) (c .before .before .before .before .before .before .before .before .before .before .if1 .left) in
     let is-used = sym (c .before .before .before .before .before .before .before .before .before .is-used .ensures) ∙ not-false _ (c .before .before .before .before .before .before .before .before .if2 .left) in
     let passed = none-refused (a .w) (a .pairs) (a .listed .now) (a .slots .now) (a .p) (a .t) (a .list .now) ok in
     let class = solved-class (c .before .before .before .before .before .before .before .solve .ensures) (c .before .before .before .before .before .bits .given .1) in
