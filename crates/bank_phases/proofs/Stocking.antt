@@ -27,7 +27,7 @@ use Rattle.bank_atom.specs.Entry.{entryOf, IsConstant}
 use Rattle.bank_stock.specs.Cursor.{Stands, formOf, nextOf, firstOf, isDone, restOf}
 use Rattle.bank_atom.specs.Seeding.{AreSeeds}
 use Rattle.bank_stock.proofs.Walk.{first-rest, first-stands, next-stands, next-rest, done-rest}
-use Rattle.bank_push.specs.Pool.{Ready, IsBank, Pushed}
+use Rattle.bank_push.specs.Steps.{Ready, IsBank, Pushed}
 use Rattle.bank_unary.specs.Phases.{Asked, Holding, Phase, turnedOf}
 use Rattle.bank_unary.proofs.Phasing.{phase-on}
 use Rattle.bank_unary.proofs.Turning.{unaries}

@@ -3,7 +3,7 @@ use probe_points::Point;
 ghost use Rattle.bank_spec.specs.Bank.{bankOf};
 ghost use Rattle.bank_spec.specs.Facts.{baseOf};
 ghost use Rattle.bank_parts.specs.Parts.{arrays};
-ghost use Rattle.bank_push.specs.Pool.{Ready};
+ghost use Rattle.bank_push.specs.Steps.{Ready};
 ghost use Rattle.bank_unary.specs.Phases.{Asked, Holding, Phase, Fits, turnedOf};
 
 // Pushes the stock into an empty bank: the count afterwards.

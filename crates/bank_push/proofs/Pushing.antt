@@ -22,7 +22,7 @@ use Rattle.bank_atom.specs.declared.Entry.{Entry}
 use Rattle.bank_atom.specs.Entry.{entryOf}
 use Rattle.bank_parts.specs.Parts.{arrays, Texts, textsOf, putText, TextRoom, putBetter}
 use Rattle.bank_parts.proofs.Storing.{cost-held}
-use Rattle.bank_push.specs.Pool.{putEntry, Ready, IsBank, Appended, Pushed, Started}
+use Rattle.bank_push.specs.Steps.{putEntry, Ready, IsBank, Appended, Pushed, Started}
 
 -- ---- the arrays by their fields
 abbrev withRows : Texts → List ℕ → Arrays

@@ -1,2 +1,2 @@
 -- What the contracts of this crate, and the definitions above it, cite.
-pub mod Pool
+pub mod Steps

@@ -9,7 +9,7 @@ ghost use Prim.Native.Nat.{_*_, _≤_, _<_};
 ghost use lib.ListN.{length};
 ghost use Rattle.row_map.specs.Map.{homeOf};
 ghost use Rattle.bank_parts.specs.Parts.{arrays};
-ghost use Rattle.bank_push.specs.Pool.{Ready, Appended, Pushed, Started};
+ghost use Rattle.bank_push.specs.Steps.{Ready, Appended, Pushed, Started};
 
 // Empties the map, whatever the work area held.
 pub fn start(work: &mut [u32])

@@ -11,7 +11,7 @@ use Rattle.arrays.proofs.Parts.{length-encode}
 use Rattle.bank_spec.specs.Push.{Atom}
 use Rattle.bank_spec.specs.Encoding.{Arrays, written, lengthPart, opsPart, operandsPart, costPart, rowPart}
 use Rattle.bank_spec.proofs.Encodings.{length-wide, ops-wide, operands-wide, cost-wide, row-wide}
-use Rattle.bank_push.specs.Pool.{IsBank}
+use Rattle.bank_push.specs.Steps.{IsBank}
 use Rattle.bank_unary.specs.Phases.{Holding, Phase}
 
 -- ---- one bank written over another

@@ -20,7 +20,7 @@ use Rattle.bank_atom.specs.declared.Entry.{Entry}
 use Rattle.bank_atom.specs.declared.Unary.the-variants as U
 use Rattle.bank_atom.specs.Entry.{entryOf, Extends, UnderUnary}
 use Rattle.bank_parts.specs.Parts.{Loaded}
-use Rattle.bank_push.specs.Pool.{IsBank, Pushed}
+use Rattle.bank_push.specs.Steps.{IsBank, Pushed}
 use Rattle.bank_unary.specs.Phases.{Asked, Holding, Phase}
 use Rattle.bank_unary.proofs.Phasing.{phase-on}
 

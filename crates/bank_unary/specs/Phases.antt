@@ -9,7 +9,7 @@ use Rattle.bank_spec.specs.Push.{Atom, turns}
 use Rattle.bank_spec.specs.Encoding.{Arrays}
 use Rattle.bank_spec.specs.Facts.{baseOf}
 use Rattle.bank_parts.specs.Parts.{Room}
-use Rattle.bank_push.specs.Pool.{Ready, IsBank}
+use Rattle.bank_push.specs.Steps.{Ready, IsBank}
 
 -- 01, Turned back, 1 and 2: what the build needs of a variable count and a width that are not refused
 pub record Asked (nv w : ℕ) : Type 0 where

@@ -42,7 +42,7 @@ pub record Appended (a a′ : Arrays) (work′ : List ℕ) (n : ℕ) (e : Entry)
   pub arrays : a′ ≡ putEntry a n e
   pub wide : length (e .row) ≡ 16
 
--- 01, Bank: a row already held replaces that slot's formula and cost exactly if strictly better; a new one gets the next slot (`push` of bank_spec specs/Bank).
+-- 01, Bank: a row already held replaces that slot's formula and cost exactly if strictly better; a new one gets the next slot (`push` of bank_spec specs/Push).
 -- Whatever bank the arrays hold, they hold it afterwards with the atom pushed
 pub record Pushed (a a′ : Arrays) (work′ : List ℕ) (n : ℕ) (e : Entry) (r : ℕ) : Type 0 where
   pub ready : Ready a′ work′ r
