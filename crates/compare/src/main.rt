@@ -1,16 +1,9 @@
 // The comparing program: reads each data file that its arguments name, asks our own calls for each line's answer, and writes
 // how many answers it compared and how many differ. A line that differs is named on standard error. After a line of kind 20 come
 // the bytes of a case, which isn't made of lines.
-mod banks;
-mod check;
-mod formulas;
-mod indexes;
-mod scan;
-mod searches;
-mod texts;
-
-use scan::Scan;
-use texts::Case;
+use compare_lines::inner::scan;
+use compare_lines::inner::scan::Scan;
+use compare_listings::Case;
 ghost use Prim.Native.Nat.{_≤_};
 ghost use lib.ListN.{length};
 
@@ -46,6 +39,37 @@ fn tell(line: u64) {
     io::write_all(2, b"\n");
 }
 
+// One line of a data file against our own answer. The first number is the kind; the head of each data file tells what follows.
+// A kind that is not known, or a line that is too short or too long for its kind, is not the same.
+fn line_same(line: &[u64]) -> bool {
+    if line.len() == 0 {
+        return false;
+    }
+    let kind = line[0];
+    match kind {
+        1 => compare_words::splitmix64_same(line),
+        2 => compare_words::points_same(line),
+        3 => compare_words::fingerprint_same(line),
+        4 => compare_words::gate_same(line),
+        5 => compare_words::residual_same(line),
+        6 => compare_words::matches_same(line),
+        7 => compare_words::bitmask_same(line),
+        8 => compare_words::inverse_same(line),
+        9 => compare_formulas::formula_same(line),
+        10 => compare_formulas::refusal_same(line),
+        11 => compare_banks::bank_same(line),
+        12 => compare_banks::bank_refusal_same(line),
+        13 => compare_indexes::index_same(line),
+        14 => compare_indexes::index_refusal_same(line),
+        15 => compare_candidates::candidates_same(line),
+        16 => compare_products::product_same(line),
+        17 => compare_products::product_refusal_same(line),
+        18 => compare_candidates::candidates_refusal_same(line),
+        20 => compare_listings::head_same(line),
+        _ => false,
+    }
+}
+
 // Whether a line holds numbers, and they are our own answer.
 fn is_same(numbers: &[u64], s: Scan) -> bool
     requires { ⌜ s .count ≤ length (now numbers) ⌝ }
@@ -54,7 +78,7 @@ fn is_same(numbers: &[u64], s: Scan) -> bool
         return false;
     }
     let count = s.count;
-    check::line_same(&numbers[..count])
+    line_same(&numbers[..count])
 }
 
 // A line at its end is compared, unless it is empty or a comment.
@@ -82,10 +106,10 @@ fn case_of(numbers: &[u64], s: Scan, line: u64) -> Case
     requires { ⌜ s .count ≤ length (now numbers) ⌝ }
 {
     if s.bad {
-        return texts::none();
+        return compare_listings::none();
     }
     let count = s.count;
-    texts::begin(&numbers[..count], line)
+    compare_listings::begin(&numbers[..count], line)
 }
 
 // A case at its end, or at the file's.
@@ -104,7 +128,7 @@ fn feed_case(out: &mut [u8], c: Case, mut t: Tally, byte: u8) -> Progress
     if byte == b'\n' {
         t.lines = one_more(t.lines);
     }
-    let case = texts::feed(out, c, byte);
+    let case = compare_listings::feed(out, c, byte);
     if !case.open {
         t = settle_case(case, t);
     }
@@ -225,10 +249,10 @@ fn end_file(numbers: &mut [u64], out: &mut [u8], p: Progress) -> Tally
 fn compare_file(fd: i32, mut t: Tally) -> Tally {
     t.lines = 0;
     let mut numbers = [0u64; LINE_NUMBERS];
-    let mut out = [0u8; texts::PRINTED_MAX];
+    let mut out = [0u8; compare_listings::PRINTED_MAX];
     let p = Progress {
         scan: Scan::new(),
-        case: texts::none(),
+        case: compare_listings::none(),
         tally: t,
         state: 0,
     };

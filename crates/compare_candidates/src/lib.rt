@@ -1,0 +1,159 @@
+// Lines about candidates. crates/compare/data/searches.txt tells what stands in them.
+use compare_lines::OLD_HALF;
+use compare_lines::OLD_WORD;
+use compare_lines::narrow;
+use search_candidates::CandidatesAnswer;
+ghost use Prim.Native.Nat.{_+_, _≤_};
+ghost use lib.ListN.{length};
+
+// The most pairs of a line about candidates.
+const PAIRS_MAX: usize = 200;
+
+// An answer as a line has it: 0 used, 1 not used, 100 + r refused r; then how many candidates are listed.
+struct Told {
+    answer: u64,
+    count: u64,
+}
+
+fn numbers_of(r: CandidatesAnswer) -> Told {
+    match r {
+        CandidatesAnswer::Used(count) => Told {
+            answer: 0,
+            count: count as u64,
+        },
+        CandidatesAnswer::NotUsed => Told {
+            answer: 1,
+            count: 0,
+        },
+        CandidatesAnswer::Refused(number) => Told {
+            answer: 100 + number as u64,
+            count: 0,
+        },
+    }
+}
+
+// Rows with the n first words that stand from place 3 on. Nothing reads their other words.
+fn rows_at(line: &[u64], n: usize) -> [u64; 3200]
+    requires { ⌜ (n ≤ 200) × (3 + n ≤ length (now line)) ⌝ }
+{
+    let mut rows = [OLD_WORD; 3200];
+    let mut i: usize = 0;
+    while i < n {
+        rows[16 * i] = line[3 + i];
+        i += 1;
+    }
+    rows
+}
+
+// The n slots that stand from `base` on.
+fn slots_at(line: &[u64], base: usize, n: usize) -> [u32; 200]
+    requires { ⌜ (n ≤ 200) × (base + n ≤ length (now line)) ⌝ }
+{
+    let mut slots = [OLD_HALF; PAIRS_MAX];
+    let mut i: usize = 0;
+    while i < n {
+        slots[i] = narrow(line[base + i]);
+        i += 1;
+    }
+    slots
+}
+
+// 15 W N, first words, order list, P T ANSWER COUNT, slots
+pub fn candidates_same(line: &[u64]) -> bool {
+    if line.len() < 7 {
+        return false;
+    }
+    if 200 < line[2] {
+        return false;
+    }
+    let n = line[2] as usize;
+    let at = 3 + 2 * n;
+    if line.len() < at + 4 {
+        return false;
+    }
+    list_same(line, n, at)
+}
+
+// Whether the candidates of n pairs for the p and t from `at` on, in a list with places to spare, are those that follow.
+fn list_same(line: &[u64], n: usize, at: usize) -> bool
+    requires { ⌜ (n ≤ 200) × (3 + n + n ≤ at) × (at + 4 ≤ length (now line)) ⌝ }
+{
+    let rows = rows_at(line, n);
+    let slots = slots_at(line, 3 + n, n);
+    let mut list = [OLD_HALF; 250];
+    let r = search_candidates::collect_mul_probe0_candidates(
+        narrow(line[1]),
+        n,
+        &rows,
+        &slots,
+        line[at],
+        line[at + 1],
+        &mut list,
+    );
+    let t = numbers_of(r);
+    if t.answer != line[at + 2] {
+        return false;
+    }
+    if t.count != line[at + 3] {
+        return false;
+    }
+    if t.count != (line.len() - at - 4) as u64 {
+        return false;
+    }
+    list_is(&list, line, at + 4)
+}
+
+// Whether the list begins with all the numbers from `base` on, and its other places are as they were.
+fn list_is(list: &[u32], line: &[u64], base: usize) -> bool
+    requires { ⌜ base ≤ length (now line) ⌝ }
+{
+    let mut i = base;
+    while i < line.len() {
+        if compare_lines::half_at(list, i - base) != line[i] {
+            return false;
+        }
+        i += 1;
+    }
+    compare_lines::halves_kept(list, line.len() - base)
+}
+
+// 18 W N LISTEDLEN ORDERLEN LISTLEN P T SWAP REFUSAL
+pub fn candidates_refusal_same(line: &[u64]) -> bool {
+    if line.len() != 10 {
+        return false;
+    }
+    let listed = [0u64; 8000];
+    let slots = compare_lines::zero_order(line[8]);
+    let mut list = [OLD_HALF; 8000];
+    let t = candidates_of_parts(&mut list, &listed, &slots, line);
+    if !refusal_is(t, line[9]) {
+        return false;
+    }
+    compare_lines::halves_kept(&list, t.count as usize)
+}
+
+// The candidates over parts of the arrays, as long as the line says.
+fn candidates_of_parts(list: &mut [u32], listed: &[u64], slots: &[u32], line: &[u64]) -> Told
+    requires { ⌜ 10 ≤ length (now line) ⌝ }
+{
+    let listed_end = compare_lines::least(line[3], listed.len());
+    let slots_end = compare_lines::least(line[4], slots.len());
+    let list_end = compare_lines::least(line[5], list.len());
+    let r = search_candidates::collect_mul_probe0_candidates(
+        narrow(line[1]),
+        line[2] as usize,
+        &listed[..listed_end],
+        &slots[..slots_end],
+        line[6],
+        line[7],
+        &mut list[..list_end],
+    );
+    numbers_of(r)
+}
+
+fn refusal_is(t: Told, refusal: u64) -> bool {
+    if t.answer < 100 {
+        return refusal == 0;
+    }
+    t.answer - 100 == refusal
+}

@@ -1,0 +1,46 @@
+-- `compare_lines::digest_halves` is safe: the place stays below n. Assumes nothing.
+use Prim.Native.Nat.{_-_, _≤_}
+use borrow.Author.Needs.{needs}
+use Rattle.compare_lines.proofs.digest_halves.Statement.{statement}
+use Rattle.compare_lines.proofs.digest_halves.Tie as tie
+
+abbrev Inv-loop : tie.InvT-loop
+Inv-loop s n h₀ i₀ h i = i ≤ n
+
+abbrev μ-loop : tie.MeasureT-loop
+μ-loop s n h₀ i₀ h i = n - i
+
+loop-holds : tie.Need-loop-holds Inv-loop μ-loop
+loop-holds c = search needs
+
+half-at-requires : tie.Need-half-at-requires Inv-loop μ-loop
+half-at-requires c κs = search needs
+
+mix-requires : tie.Need-mix-requires Inv-loop μ-loop
+mix-requires c κs = search needs
+
+add-i : tie.Need-add-i Inv-loop μ-loop
+add-i c = search needs
+
+loop-less : tie.Need-loop-less Inv-loop μ-loop
+loop-less c = search needs
+
+loop-again : tie.Need-loop-again Inv-loop μ-loop
+loop-again c = search needs
+
+returns : tie.Need-returns Inv-loop μ-loop
+returns c = search needs
+
+pub digest-halves-spec : {M : Type 1} → statement M
+digest-halves-spec =
+    tie.close
+    (tie.spec
+    Inv-loop
+    μ-loop
+    loop-holds
+    half-at-requires
+    mix-requires
+    add-i
+    loop-less
+    loop-again
+    returns)

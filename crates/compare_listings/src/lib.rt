@@ -1,0 +1,127 @@
+// The cases of crates/compare/data/listings.txt: a line `20 A B`, then A bytes of a text, B bytes that the listing program must print of it, and a line end.
+use listing::ListingAnswer;
+use text_parse::Parse;
+
+const KIND: u64 = 20;
+
+// The longest text in a file, and the most that is printed.
+const TEXT_MAX: u64 = 0x100_0000;
+
+pub const PRINTED_MAX: usize = 131072;
+
+// Where a case stands.
+pub struct Case {
+    pub open: bool,
+    // the number of its line `20 A B`
+    pub line: u64,
+    // bytes of the text that are to come
+    pub text_left: u64,
+    pub parse: Parse,
+    // the listing of the text is in the buffer
+    pub written: bool,
+    // bytes that must be printed, and how many of them have come
+    pub expected: usize,
+    pub at: usize,
+    // as long as expected, and no byte differs so far
+    pub same: bool,
+}
+
+// No case.
+pub fn none() -> Case {
+    Case {
+        open: false,
+        line: 0,
+        text_left: 0,
+        parse: text_parse::begin(),
+        written: false,
+        expected: 0,
+        at: 0,
+        same: false,
+    }
+}
+
+// 20 A B
+pub fn head_same(line: &[u64]) -> bool {
+    if line.len() != 3 {
+        return false;
+    }
+    if line[0] != KIND {
+        return false;
+    }
+    if TEXT_MAX < line[1] {
+        return false;
+    }
+    line[2] <= PRINTED_MAX as u64
+}
+
+// The case that line number `number` opens, if it opens one.
+pub fn begin(line: &[u64], number: u64) -> Case {
+    let mut c = none();
+    if line.len() != 3 {
+        return c;
+    }
+    if !head_same(line) {
+        return c;
+    }
+    c.open = true;
+    c.line = number;
+    c.text_left = line[1];
+    c.expected = line[2] as usize;
+    c
+}
+
+// One byte more of the text.
+fn feed_text(mut c: Case, byte: u8) -> Case {
+    if c.text_left == 0 {
+        return c;
+    }
+    c.text_left -= 1;
+    let part = [byte];
+    c.parse = text_parse::feed(c.parse, &part);
+    c
+}
+
+// The text is at its end: its listing.
+fn write(out: &mut [u8], mut c: Case) -> Case {
+    c.written = true;
+    let answer = listing::write_listing(out, c.parse);
+    match answer {
+        ListingAnswer::Written(n) => {
+            c.same = n == c.expected;
+        }
+        ListingAnswer::Refused(_) => {
+            c.same = false;
+        }
+    }
+    c
+}
+
+// One byte more of what must be printed, or the line end after it.
+fn feed_printed(out: &[u8], mut c: Case, byte: u8) -> Case {
+    let at = c.at;
+    if at == c.expected {
+        c.open = false;
+        c.same = c.same && byte == b'\n';
+        return c;
+    }
+    if out.len() <= at {
+        c.open = false;
+        c.same = false;
+        return c;
+    }
+    c.same = c.same && out[at] == byte;
+    c.at = at + 1;
+    c
+}
+
+// One byte more of an open case.
+pub fn feed(out: &mut [u8], c: Case, byte: u8) -> Case {
+    if 0 < c.text_left {
+        return feed_text(c, byte);
+    }
+    if c.written {
+        return feed_printed(out, c, byte);
+    }
+    let d = write(out, c);
+    feed_printed(out, d, byte)
+}

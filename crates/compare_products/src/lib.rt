@@ -1,0 +1,122 @@
+// Lines about product searches. crates/compare/data/searches.txt tells what stands in them.
+use compare_lines::OLD_HALF;
+use compare_lines::OLD_WORD;
+use compare_lines::narrow;
+use index::IndexAnswer;
+use search_product::ProductAnswer;
+ghost use Prim.Native.Nat.{_+_, _≤_};
+ghost use lib.ListN.{length};
+
+// 16 NV W, the points' words, the target, W2 LIMIT, the row, ANSWER A B
+pub fn product_same(line: &[u64]) -> bool {
+    if line.len() < 3 {
+        return false;
+    }
+    if 6 < line[1] {
+        return false;
+    }
+    let nv = line[1] as usize;
+    let at = 3 + 16 * nv;
+    if line.len() != at + 37 {
+        return false;
+    }
+    let mut rows = [0u64; 7664];
+    let count = compare_banks::inner::bank_rows(&mut rows, line, nv);
+    search_is(line, at + 16, count, &rows)
+}
+
+// Whether the search over these atoms and their index, of at most 500 pairs, answers as stands from `at` on.
+fn search_is(line: &[u64], at: usize, count: usize, rows: &[u64]) -> bool
+    requires { ⌜ (at ≤ 500) × (at + 21 ≤ length (now line)) ⌝ }
+{
+    let mut pairs = [0u32; 1500];
+    let mut listed = [OLD_WORD; 8000];
+    let mut slots = [OLD_HALF; 500];
+    let mut work = [0u32; 3916];
+    let w = narrow(line[at]);
+    let built = index::build_index(
+        w,
+        count,
+        rows,
+        line[at + 1] as usize,
+        &mut pairs,
+        &mut listed,
+        &mut slots,
+        &mut work,
+    );
+    let n = pairs_of(built);
+    let row = compare_lines::inner::row_at(line, at + 2);
+    let r = search_product::product_search(w, count, rows, n, &listed, &slots, row);
+    product_is(r, line, at + 18)
+}
+
+// The pairs of an answer; more than there can be where it is refused.
+fn pairs_of(r: IndexAnswer) -> usize {
+    match r {
+        IndexAnswer::Built { pairs, cut: _ } => pairs as usize,
+        IndexAnswer::Refused(_) => 501,
+    }
+}
+
+// Whether the answer is the one from `at` on.
+fn product_is(r: ProductAnswer, line: &[u64], at: usize) -> bool
+    requires { ⌜ at + 3 ≤ length (now line) ⌝ }
+{
+    match r {
+        ProductAnswer::Atoms(a, b) => answer_is(line, at, 1, a.0, b.0),
+        ProductAnswer::AtomPair(a, s) => answer_is(line, at, 2, a.0, s.0),
+        ProductAnswer::Nothing => answer_is(line, at, 0, 0, 0),
+        ProductAnswer::Refused(_) => false,
+    }
+}
+
+fn answer_is(line: &[u64], at: usize, answer: u64, a: u32, b: u32) -> bool
+    requires { ⌜ at + 3 ≤ length (now line) ⌝ }
+{
+    if line[at] != answer {
+        return false;
+    }
+    if line[at + 1] != a as u64 {
+        return false;
+    }
+    line[at + 2] == b as u64
+}
+
+// 17 W COUNT ATOMSLEN N LISTEDLEN ORDERLEN WORD SWAP REFUSAL
+pub fn product_refusal_same(line: &[u64]) -> bool {
+    if line.len() != 10 {
+        return false;
+    }
+    let atoms = [0u64; 8000];
+    let listed = [0u64; 8000];
+    let slots = compare_lines::zero_order(line[8]);
+    product_refusal(&atoms, &listed, &slots, line) == line[9]
+}
+
+// The refusal of a search over parts of the arrays, as long as the line says; 0 for none.
+fn product_refusal(atoms: &[u64], listed: &[u64], slots: &[u32], line: &[u64]) -> u64
+    requires { ⌜ 10 ≤ length (now line) ⌝ }
+{
+    let atoms_end = compare_lines::least(line[3], atoms.len());
+    let listed_end = compare_lines::least(line[5], listed.len());
+    let slots_end = compare_lines::least(line[6], slots.len());
+    let mut target = [0u64; 16];
+    target[15] = line[7];
+    let r = search_product::product_search(
+        narrow(line[1]),
+        line[2] as usize,
+        &atoms[..atoms_end],
+        line[4] as usize,
+        &listed[..listed_end],
+        &slots[..slots_end],
+        target,
+    );
+    refusal_of(r)
+}
+
+fn refusal_of(r: ProductAnswer) -> u64 {
+    match r {
+        ProductAnswer::Refused(number) => number as u64,
+        _ => 0,
+    }
+}
