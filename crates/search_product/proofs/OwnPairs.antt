@@ -174,7 +174,7 @@ built-is-own w count atoms L old left r said built says =
     let number = indexRefusal w count atoms L old in
     let free = answered number (summaryOf (lentIndex w count atoms L)) said (sym (built .says) ∙ says) in
     let none = zero-of number (free .free) in
-    let fit : Fit w count atoms L = record { rows = none-refused w count L (length atoms) _ _ _ _ none .atoms } in
+    let fit : Fit w count atoms L = record { rows = none-refused w count L (length atoms) _ _ _ _ number refl none .atoms } in
     let ps = lentIndex w count atoms L .pairs in
     let n : length ps ≡ said .pairs = ap (λ (s : Summary). s .pairs) (free .is) in
     let wide : length (encode pairRow ps) ≡ 16 * said .pairs = rows-long ps (row-long fit) ∙ ap (λ (k : ℕ). 16 * k) n in
