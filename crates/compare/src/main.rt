@@ -59,7 +59,7 @@ fn line_same(line: &[u64]) -> bool {
         10 => compare_formulas::refusal_same(line),
         11 => compare_banks::bank_same(line),
         12 => compare_banks::bank_refusal_same(line),
-        13 => compare_indexes::index_same(line),
+        13 => compare_banks::index_same(line),
         14 => compare_indexes::index_refusal_same(line),
         15 => compare_candidates::candidates_same(line),
         16 => compare_products::product_same(line),

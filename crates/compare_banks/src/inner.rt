@@ -1,14 +1,44 @@
-// The bank of a line, for the lines that go on from its rows.
+// The points of a line and the bank of a line, for the lines that go on from its rows.
 use bank::BankAnswer;
 use compare_lines::narrow;
+use probe_points::Point;
 ghost use Prim.Native.Nat.{_≤_};
 ghost use lib.ListN.{length};
+
+// A point of nv words from `base` on, zeros past them.
+fn point_at(line: &[u64], base: usize, nv: usize) -> Point
+    requires { ⌜ (base ≤ 1000) × (nv ≤ 6) ⌝ }
+{
+    let mut words = [0u64; 6];
+    let mut i: usize = 0;
+    while i < nv {
+        words[i] = compare_lines::number_at(line, base + i);
+        i += 1;
+    }
+    Point { words }
+}
+
+// Sixteen points from place 3 on, each of `stride` words.
+pub fn points_at(line: &[u64], stride: usize) -> [Point; 16]
+    requires { ⌜ stride ≤ 6 ⌝ }
+{
+    let mut points = [Point { words: [0; 6] }; 16];
+    let mut base: usize = 3;
+    let mut k: usize = 0;
+    while k < 16 {
+        let p = point_at(line, base, stride);
+        points[k] = p;
+        base += stride;
+        k += 1;
+    }
+    points
+}
 
 // The rows of the bank of a line KIND NV W, the points' words and the target, and how many there are; 0 where it is refused.
 pub fn bank_rows(rows: &mut [u64], line: &[u64], nv: usize) -> usize
     requires { ⌜ (nv ≤ 6) × (3 ≤ length (now line)) ⌝ }
 {
-    let points = compare_lines::inner::points_at(line, nv);
+    let points = points_at(line, nv);
     let target = compare_lines::inner::row_at(line, 3 + 16 * nv);
     let mut lengths = [0u32; 479];
     let mut ops = [0u8; 2874];

@@ -1,4 +1,4 @@
-// Lines about banks. crates/compare/data/banks.txt tells what stands in them.
+// Lines about banks, and about the index of a bank. crates/compare/data/banks.txt and indexes.txt tell what stands in them.
 pub mod inner;
 
 use bank::Sizes;
@@ -23,7 +23,7 @@ pub fn bank_same(line: &[u64]) -> bool {
     if line.len() != at + 22 {
         return false;
     }
-    let points = compare_lines::inner::points_at(line, nv);
+    let points = inner::points_at(line, nv);
     let target = compare_lines::inner::row_at(line, at);
     built_is(line, points, target, at + 16)
 }
@@ -93,7 +93,7 @@ pub fn bank_refusal_same(line: &[u64]) -> bool {
     if line.len() != 122 {
         return false;
     }
-    let points = compare_lines::inner::points_at(line, 6);
+    let points = inner::points_at(line, 6);
     let target = compare_lines::inner::row_at(line, 99);
     let sizes = Sizes {
         lengths: compare_lines::least(line[115], SIZE_MAX),
@@ -111,4 +111,26 @@ pub fn bank_refusal_same(line: &[u64]) -> bool {
         sizes,
     );
     refusal as u64 == line[121]
+}
+
+// 13 NV W, the points' words, the target, W2 LIMIT PAIRS CUT and a digest of each array
+pub fn index_same(line: &[u64]) -> bool {
+    if line.len() < 3 {
+        return false;
+    }
+    if 6 < line[1] {
+        return false;
+    }
+    let nv = line[1] as usize;
+    let at = 3 + 16 * nv;
+    if line.len() != at + 23 {
+        return false;
+    }
+    let mut rows = [0u64; 7664];
+    let count = inner::bank_rows(&mut rows, line, nv);
+    // no bank is empty
+    if count == 0 {
+        return false;
+    }
+    compare_indexes::inner::index_is(line, at + 16, count, &rows)
 }

@@ -155,10 +155,17 @@ pub fn refusal_same(line: &[u64]) -> bool {
         return false;
     }
     let ops = opcodes_at(line, 7, n);
-    if !cost_refusal_is(line, &ops[..n], &line[a..b], line[c + 1]) {
+    refusals_are(line, &ops[..n], a, b, c)
+}
+
+// Whether both calls refuse these opcodes, with the operands from `a` to `b` and the words from `b` to `c`, as stands from `c` on.
+fn refusals_are(line: &[u64], ops: &[u8], a: usize, b: usize, c: usize) -> bool
+    requires { ⌜ (9 ≤ length (now line)) × (a ≤ b) × (b ≤ c) × (c + 2 ≤ length (now line)) ⌝ }
+{
+    if !cost_refusal_is(line, ops, &line[a..b], line[c + 1]) {
         return false;
     }
-    value_refusal_is(line, &ops[..n], &line[a..b], &line[b..c], line[c])
+    value_refusal_is(line, ops, &line[a..b], &line[b..c], line[c])
 }
 
 fn cost_refusal_is(line: &[u64], ops: &[u8], operands: &[u64], refusal: u64) -> bool

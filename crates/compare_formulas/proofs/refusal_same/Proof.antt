@@ -58,82 +58,16 @@ opcodes-at-requires c κs = search needs
 array-share-prefix-ops : tie.Need-array-share-prefix-ops
 array-share-prefix-ops c = search needs
 
-slice-aggregate-cost-refusal-is : tie.Need-slice-aggregate-cost-refusal-is
-slice-aggregate-cost-refusal-is c =
+slice-aggregate-refusals-are : tie.Need-slice-aggregate-refusals-are
+slice-aggregate-refusals-are c =
     let e2 = c .before .before .before .before .before .before .before .before .before .before in
     sym (length-take-le (getD (c .before .before .before .before .before .before .before .before .before .before .before .before .before .before .args .line .now) 4 0) (c .before .opcodes-at .result) (omega (arith, e2 .if2 .left, c .before .opcodes-at .ensures)))
 
-mul-cost-refusal-is : tie.Need-mul-cost-refusal-is
-mul-cost-refusal-is c = search needs
-
-sub-cost-refusal-is : tie.Need-sub-cost-refusal-is
-sub-cost-refusal-is c = search needs
-
-part-cost-refusal-is-start : tie.Need-part-cost-refusal-is-start
-part-cost-refusal-is-start c = search needs
-
-part-cost-refusal-is-end : tie.Need-part-cost-refusal-is-end
-part-cost-refusal-is-end c = search needs
-
-add-cost-refusal-is : tie.Need-add-cost-refusal-is
-add-cost-refusal-is c = search needs
-
-mul-cost-refusal-is-2 : tie.Need-mul-cost-refusal-is-2
-mul-cost-refusal-is-2 c = search needs
-
-shared-slice-read-cost-refusal-is : tie.Need-shared-slice-read-cost-refusal-is
-shared-slice-read-cost-refusal-is c = search needs
-
-cost-refusal-is-requires : tie.Need-cost-refusal-is-requires
-cost-refusal-is-requires c κs = search needs
+refusals-are-requires : tie.Need-refusals-are-requires
+refusals-are-requires c κs = search needs
 
 returns-6 : tie.Need-returns-6
 returns-6 c = search needs
-
-array-share-prefix-ops-2 : tie.Need-array-share-prefix-ops-2
-array-share-prefix-ops-2 c = search needs
-
-slice-aggregate-value-refusal-is : tie.Need-slice-aggregate-value-refusal-is
-slice-aggregate-value-refusal-is c =
-    let o = c .before .before .before .before .before .before in
-    let e2 = o .before .before .before .before .before .before .before .before .before in
-    sym (length-take-le (getD (o .before .before .before .before .before .before .before .before .before .before .before .before .before .args .line .now) 4 0) (o .opcodes-at .result) (omega (arith, e2 .if2 .left, o .opcodes-at .ensures)))
-
-mul-value-refusal-is : tie.Need-mul-value-refusal-is
-mul-value-refusal-is c = search needs
-
-sub-value-refusal-is : tie.Need-sub-value-refusal-is
-sub-value-refusal-is c = search needs
-
-part-value-refusal-is-start : tie.Need-part-value-refusal-is-start
-part-value-refusal-is-start c = search needs
-
-part-value-refusal-is-end : tie.Need-part-value-refusal-is-end
-part-value-refusal-is-end c = search needs
-
-mul-value-refusal-is-2 : tie.Need-mul-value-refusal-is-2
-mul-value-refusal-is-2 c = search needs
-
-sub-value-refusal-is-2 : tie.Need-sub-value-refusal-is-2
-sub-value-refusal-is-2 c = search needs
-
-part-value-refusal-is-start-2 : tie.Need-part-value-refusal-is-start-2
-part-value-refusal-is-start-2 c = search needs
-
-part-value-refusal-is-end-2 : tie.Need-part-value-refusal-is-end-2
-part-value-refusal-is-end-2 c = search needs
-
-mul-value-refusal-is-3 : tie.Need-mul-value-refusal-is-3
-mul-value-refusal-is-3 c = search needs
-
-shared-slice-read-value-refusal-is : tie.Need-shared-slice-read-value-refusal-is
-shared-slice-read-value-refusal-is c = search needs
-
-value-refusal-is-requires : tie.Need-value-refusal-is-requires
-value-refusal-is-requires c κs = search needs
-
-returns-7 : tie.Need-returns-7
-returns-7 c = search needs
 
 pub refusal-same-spec : {M : Type 1} → statement M
 refusal-same-spec =
@@ -156,27 +90,6 @@ refusal-same-spec =
     returns-5
     opcodes-at-requires
     array-share-prefix-ops
-    slice-aggregate-cost-refusal-is
-    mul-cost-refusal-is
-    sub-cost-refusal-is
-    part-cost-refusal-is-start
-    part-cost-refusal-is-end
-    add-cost-refusal-is
-    mul-cost-refusal-is-2
-    shared-slice-read-cost-refusal-is
-    cost-refusal-is-requires
-    returns-6
-    array-share-prefix-ops-2
-    slice-aggregate-value-refusal-is
-    mul-value-refusal-is
-    sub-value-refusal-is
-    part-value-refusal-is-start
-    part-value-refusal-is-end
-    mul-value-refusal-is-2
-    sub-value-refusal-is-2
-    part-value-refusal-is-start-2
-    part-value-refusal-is-end-2
-    mul-value-refusal-is-3
-    shared-slice-read-value-refusal-is
-    value-refusal-is-requires
-    returns-7)
+    slice-aggregate-refusals-are
+    refusals-are-requires
+    returns-6)

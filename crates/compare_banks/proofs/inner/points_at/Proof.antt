@@ -1,11 +1,11 @@
--- `compare_lines::inner::points_at` is safe: the point stays below 16. Assumes nothing.
+-- `compare_banks::inner::points_at` is safe: the point stays below 16. Assumes nothing.
 use mathlib.Core.Path.{_≡_}
 use Prim.Native.Nat.{_+_, _-_, _*_, _≤_}
 use native.Mathlib.Omega.{arith}
 use borrow.Author.Needs.{needs}
 use lib.ListN.{length, length-set}
-use Rattle.compare_lines.proofs.inner.points_at.Statement.{statement}
-use Rattle.compare_lines.proofs.inner.points_at.Tie as tie
+use Rattle.compare_banks.proofs.inner.points_at.Statement.{statement}
+use Rattle.compare_banks.proofs.inner.points_at.Tie as tie
 
 abbrev Inv-loop : tie.InvT-loop
 Inv-loop line stride points₀ base₀ k₀ points base k = (k ≤ 16) × ((length points ≡ 16) × (base ≤ 3 + 6 * k))

@@ -1,10 +1,10 @@
--- `compare_lines::inner::point_at` is safe: the place stays below nv, which is at most 6. Assumes nothing.
+-- `compare_banks::inner::point_at` is safe: the place stays below nv, which is at most 6. Assumes nothing.
 use mathlib.Core.Path.{_≡_}
 use Prim.Native.Nat.{_-_, _≤_}
 use borrow.Author.Needs.{needs}
 use lib.ListN.{length}
-use Rattle.compare_lines.proofs.inner.point_at.Statement.{statement}
-use Rattle.compare_lines.proofs.inner.point_at.Tie as tie
+use Rattle.compare_banks.proofs.inner.point_at.Statement.{statement}
+use Rattle.compare_banks.proofs.inner.point_at.Tie as tie
 
 abbrev Inv-loop : tie.InvT-loop
 Inv-loop line base nv words₀ i₀ words i = (i ≤ nv) × (length words ≡ 6)

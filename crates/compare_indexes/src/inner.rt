@@ -1,0 +1,85 @@
+// An index against the one that a line tells, for the lines that have the rows of a bank.
+use compare_lines::OLD_HALF;
+use compare_lines::OLD_WORD;
+use compare_lines::narrow;
+use index::IndexAnswer;
+ghost use Prim.Native.Nat.{_+_, _^_, _≤_, _<_};
+ghost use lib.ListN.{length};
+
+// Whether the first n elements have the digest and the others are as they were.
+fn halves_are(s: &[u32], n: usize, digest: u64) -> bool {
+    if compare_lines::digest_halves(s, n) != digest {
+        return false;
+    }
+    compare_lines::halves_kept(s, n)
+}
+
+fn words_are(s: &[u64], n: usize, digest: u64) -> bool {
+    if compare_lines::digest_words(s, n) != digest {
+        return false;
+    }
+    compare_lines::words_kept(s, n)
+}
+
+// Whether the index of `count` rows, of at most 500 pairs, is the one that stands from `at` on.
+pub fn index_is(line: &[u64], at: usize, count: usize, rows: &[u64]) -> bool
+    requires { ⌜ at + 7 ≤ length (now line) ⌝ }
+{
+    let mut pairs = [OLD_HALF; 1500];
+    let mut listed = [OLD_WORD; 8000];
+    let mut slots = [OLD_HALF; 500];
+    let mut work = [OLD_HALF; 3916];
+    let built = index::build_index(
+        narrow(line[at]),
+        count,
+        rows,
+        line[at + 1] as usize,
+        &mut pairs,
+        &mut listed,
+        &mut slots,
+        &mut work,
+    );
+    let n = pairs_of(built, line[at + 3]);
+    if n != line[at + 2] {
+        return false;
+    }
+    arrays_are(line, at, narrow(n) as usize, &pairs, &listed, &slots)
+}
+
+// How many pairs an answer has, if it has the mark; else more than there can be.
+fn pairs_of(r: IndexAnswer, mark: u64) -> u64 {
+    match r {
+        IndexAnswer::Built { pairs, cut } => {
+            if mark_of(cut) == mark {
+                pairs as u64
+            } else {
+                u64::MAX
+            }
+        }
+        IndexAnswer::Refused(_) => u64::MAX,
+    }
+}
+
+// 1 for cut, 0 for whole.
+fn mark_of(cut: bool) -> u64 {
+    if cut { 1 } else { 0 }
+}
+
+fn arrays_are(
+    line: &[u64],
+    at: usize,
+    n: usize,
+    pairs: &[u32],
+    listed: &[u64],
+    slots: &[u32],
+) -> bool
+    requires { ⌜ (n < 2 ^ 32) × (at + 7 ≤ length (now line)) ⌝ }
+{
+    if !halves_are(pairs, 3 * n, line[at + 4]) {
+        return false;
+    }
+    if !words_are(listed, 16 * n, line[at + 5]) {
+        return false;
+    }
+    halves_are(slots, n, line[at + 6])
+}
