@@ -1,4 +1,4 @@
 -- The laws of this crate, which the crates above cite too.
 pub mod Trials
 pub mod Firsts
-pub mod Turns
+pub mod Rounds

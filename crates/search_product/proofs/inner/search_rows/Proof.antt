@@ -1,7 +1,7 @@
 -- `search_product::inner::search_rows` meets its contract: the second stage counts where the first has none. Assumes nothing.
 use mathlib.Core.Path.{sym, ap, _∙_}
 use Rattle.search_product_trial.specs.Stages.{foundSays}
-use Rattle.search_product_trial.proofs.Turns.{in-first, in-second}
+use Rattle.search_product_trial.proofs.Rounds.{in-first, in-second}
 use borrow.Author.Needs.{needs}
 use Rattle.search_product.proofs.inner.search_rows.Statement.{statement}
 use Rattle.search_product.proofs.inner.search_rows.Tie as tie

@@ -13,7 +13,7 @@ use Rattle.search_product_trial.specs.Trying.{fitting, withAtoms}
 use Rattle.search_product_trial.specs.Steps.{fitsAt}
 use Rattle.search_product_atoms.specs.Steps.{atomSays}
 use Rattle.search_product_trial.proofs.Trials.{fits-swap}
-use Rattle.search_product_trial.proofs.Turns.{atomTrials, atoms-start, atoms-hit, atoms-miss, atoms-end}
+use Rattle.search_product_trial.proofs.Rounds.{atomTrials, atoms-start, atoms-hit, atoms-miss, atoms-end}
 use borrow.Author.Needs.{needs}
 use native.Mathlib.Omega.{arith}
 use Rattle.search_product_atoms.proofs.inner.search_atoms.Statement.{statement}

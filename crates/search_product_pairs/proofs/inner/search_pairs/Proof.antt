@@ -4,7 +4,7 @@ use Prim.Native.Nat.{_-_, _≤_}
 use Rattle.arrays.specs.Lists.{firstThat}
 use Rattle.search_product_trial.specs.Trying.{fitting, withPairs}
 use Rattle.search_product_pairs.specs.Steps.{pairSays}
-use Rattle.search_product_trial.proofs.Turns.{pairTrials, pairs-start, pairs-hit, pairs-miss, pairs-end}
+use Rattle.search_product_trial.proofs.Rounds.{pairTrials, pairs-start, pairs-hit, pairs-miss, pairs-end}
 use borrow.Author.Needs.{needs}
 use native.Mathlib.Omega.{arith}
 use Rattle.search_product_pairs.proofs.inner.search_pairs.Statement.{statement}
