@@ -51,13 +51,29 @@ fn built_is(line: &[u64], points: [Point; 16], target: [u64; 16], at: usize) -> 
         target,
     );
     let n = inner::count_of(built);
+    arrays_are(line, at, n, &lengths, &ops, &operands, &costs, &rows)
+}
+
+// Whether the count of atoms and the digests of their parts of the arrays stand from `at` on.
+fn arrays_are(
+    line: &[u64],
+    at: usize,
+    n: usize,
+    lengths: &[u32],
+    ops: &[u8],
+    operands: &[u64],
+    costs: &[u32],
+    rows: &[u64],
+) -> bool
+    requires { ⌜ (n ≤ 479) × (at + 6 ≤ length (now line)) ⌝ }
+{
     if n as u64 != line[at] {
         return false;
     }
-    if !texts_are(line, at, n, &lengths, &ops, &operands) {
+    if !texts_are(line, at, n, lengths, ops, operands) {
         return false;
     }
-    numbers_are(line, at, n, &costs, &rows)
+    numbers_are(line, at, n, costs, rows)
 }
 
 fn texts_are(

@@ -90,17 +90,23 @@ fn list_same(line: &[u64], n: usize, at: usize) -> bool
         line[at + 1],
         &mut list,
     );
-    let t = numbers_of(r);
-    if t.answer != line[at + 2] {
+    told_is(numbers_of(r), &list, line, at + 2)
+}
+
+// Whether the answer, the count and the listed candidates are all that stands from `at` on.
+fn told_is(t: Told, list: &[u32], line: &[u64], at: usize) -> bool
+    requires { ⌜ at + 2 ≤ length (now line) ⌝ }
+{
+    if t.answer != line[at] {
         return false;
     }
-    if t.count != line[at + 3] {
+    if t.count != line[at + 1] {
         return false;
     }
-    if t.count != (line.len() - at - 4) as u64 {
+    if t.count != (line.len() - at - 2) as u64 {
         return false;
     }
-    list_is(&list, line, at + 4)
+    list_is(list, line, at + 2)
 }
 
 // Whether the list begins with all the numbers from `base` on, and its other places are as they were.
@@ -136,17 +142,14 @@ pub fn candidates_refusal_same(line: &[u64]) -> bool {
 fn candidates_of_parts(list: &mut [u32], listed: &[u64], slots: &[u32], line: &[u64]) -> Told
     requires { ⌜ 10 ≤ length (now line) ⌝ }
 {
-    let listed_end = compare_lines::least(line[3], listed.len());
-    let slots_end = compare_lines::least(line[4], slots.len());
-    let list_end = compare_lines::least(line[5], list.len());
     let r = search_candidates::collect_mul_probe0_candidates(
         narrow(line[1]),
         line[2] as usize,
-        &listed[..listed_end],
-        &slots[..slots_end],
+        compare_lines::first_words(listed, line[3]),
+        compare_lines::first_halves(slots, line[4]),
         line[6],
         line[7],
-        &mut list[..list_end],
+        compare_lines::first_halves_mut(list, line[5]),
     );
     numbers_of(r)
 }

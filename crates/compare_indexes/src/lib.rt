@@ -18,7 +18,7 @@ pub fn index_refusal_same(line: &[u64]) -> bool {
     let mut slots = [OLD_HALF; 8000];
     let mut work = [OLD_HALF; 8000];
     let rows = [OLD_WORD; 8000];
-    let number = refusal_of(&mut pairs, &mut listed, &mut slots, &mut work, &rows, line);
+    let number = index_refusal(&mut pairs, &mut listed, &mut slots, &mut work, &rows, line);
     if number != line[9] {
         return false;
     }
@@ -29,7 +29,7 @@ pub fn index_refusal_same(line: &[u64]) -> bool {
 }
 
 // The refusal of a build into parts of the arrays, as long as the line says; 0 for none.
-fn refusal_of(
+fn index_refusal(
     pairs: &mut [u32],
     listed: &mut [u64],
     slots: &mut [u32],
@@ -39,22 +39,21 @@ fn refusal_of(
 ) -> u64
     requires { ⌜ 10 ≤ length (now line) ⌝ }
 {
-    let rows_end = compare_lines::least(line[3], rows.len());
-    let pairs_end = compare_lines::least(line[5], pairs.len());
-    let listed_end = compare_lines::least(line[6], listed.len());
-    let slots_end = compare_lines::least(line[7], slots.len());
-    let work_end = compare_lines::least(line[8], work.len());
     let built = index::build_index(
         narrow(line[1]),
         line[2] as usize,
-        &rows[..rows_end],
+        compare_lines::first_words(rows, line[3]),
         line[4] as usize,
-        &mut pairs[..pairs_end],
-        &mut listed[..listed_end],
-        &mut slots[..slots_end],
-        &mut work[..work_end],
+        compare_lines::first_halves_mut(pairs, line[5]),
+        compare_lines::first_words_mut(listed, line[6]),
+        compare_lines::first_halves_mut(slots, line[7]),
+        compare_lines::first_halves_mut(work, line[8]),
     );
-    match built {
+    refusal_of(built)
+}
+
+fn refusal_of(r: IndexAnswer) -> u64 {
+    match r {
         IndexAnswer::Built { pairs: _, cut: _ } => 0,
         IndexAnswer::Refused(number) => number as u64,
     }

@@ -27,6 +27,27 @@ pub fn least(x: u64, most: usize) -> usize
     if x as usize <= most { x as usize } else { most }
 }
 
+// The first elements of a slice, as many as the data says, or all.
+pub fn first_halves(s: &[u32], n: u64) -> &[u32] {
+    let end = least(n, s.len());
+    &s[..end]
+}
+
+pub fn first_words(s: &[u64], n: u64) -> &[u64] {
+    let end = least(n, s.len());
+    &s[..end]
+}
+
+pub fn first_halves_mut(s: &mut [u32], n: u64) -> &mut [u32] {
+    let end = least(n, s.len());
+    &mut s[..end]
+}
+
+pub fn first_words_mut(s: &mut [u64], n: u64) -> &mut [u64] {
+    let end = least(n, s.len());
+    &mut s[..end]
+}
+
 // The element at a place, 0 past the end.
 fn byte_at(s: &[u8], at: usize) -> u64 {
     if at < s.len() { byte_word(s[at]) } else { 0 }

@@ -97,18 +97,15 @@ pub fn product_refusal_same(line: &[u64]) -> bool {
 fn product_refusal(atoms: &[u64], listed: &[u64], slots: &[u32], line: &[u64]) -> u64
     requires { ⌜ 10 ≤ length (now line) ⌝ }
 {
-    let atoms_end = compare_lines::least(line[3], atoms.len());
-    let listed_end = compare_lines::least(line[5], listed.len());
-    let slots_end = compare_lines::least(line[6], slots.len());
     let mut target = [0u64; 16];
     target[15] = line[7];
     let r = search_product::product_search(
         narrow(line[1]),
         line[2] as usize,
-        &atoms[..atoms_end],
+        compare_lines::first_words(atoms, line[3]),
         line[4] as usize,
-        &listed[..listed_end],
-        &slots[..slots_end],
+        compare_lines::first_words(listed, line[5]),
+        compare_lines::first_halves(slots, line[6]),
         target,
     );
     refusal_of(r)
