@@ -24,25 +24,25 @@ pub enum BankAnswer {
 // Builds the bank of nv variables at width w over the points, with the target's seeds, into the lent arrays: the count of atoms.
 // Refuses 1, 2, 4, 5.
 pub fn build_bank(
-    lengths: &mut [u32],
-    ops: &mut [u8],
-    operands: &mut [u64],
-    costs: &mut [u32],
-    rows: &mut [u64],
+    atom_lengths: &mut [u32],
+    atom_ops: &mut [u8],
+    atom_operands: &mut [u64],
+    atom_costs: &mut [u32],
+    atom_rows: &mut [u64],
     work: &mut [u32],
     nv: u32,
     w: u32,
     points: [Point; 16],
     target: [u64; 16],
 ) -> BankAnswer
-    ensures { λ r. ⌜ BankBuilt nv w points target (arrays (now (lengths .entry)) (now (ops .entry)) (now (operands .entry)) (now (costs .entry)) (now (rows .entry))) (arrays (now (lengths .exit)) (now (ops .exit)) (now (operands .exit)) (now (costs .exit)) (now (rows .exit))) (now (work .entry)) (now (work .exit)) r ⌝ }
+    ensures { λ r. ⌜ BankBuilt nv w points target (arrays (now («atom_lengths» .entry)) (now («atom_ops» .entry)) (now («atom_operands» .entry)) (now («atom_costs» .entry)) (now («atom_rows» .entry))) (arrays (now («atom_lengths» .exit)) (now («atom_ops» .exit)) (now («atom_operands» .exit)) (now («atom_costs» .exit)) (now («atom_rows» .exit))) (now (work .entry)) (now (work .exit)) r ⌝ }
 {
     let sizes = Sizes {
-        lengths: lengths.len(),
-        ops: ops.len(),
-        operands: operands.len(),
-        costs: costs.len(),
-        rows: rows.len(),
+        lengths: atom_lengths.len(),
+        ops: atom_ops.len(),
+        operands: atom_operands.len(),
+        costs: atom_costs.len(),
+        rows: atom_rows.len(),
         work: work.len(),
     };
     let number = inner::bank_refusal(nv, w, points, target, sizes);
@@ -50,11 +50,11 @@ pub fn build_bank(
         return BankAnswer::Refused(number);
     }
     let count = bank_phases::inner::build(
-        lengths,
-        ops,
-        operands,
-        costs,
-        rows,
+        atom_lengths,
+        atom_ops,
+        atom_operands,
+        atom_costs,
+        atom_rows,
         work,
         nv,
         w,

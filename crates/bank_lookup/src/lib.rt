@@ -16,22 +16,22 @@ pub enum FoundRow {
 }
 
 // Finds the least slot of a lent bank whose row is `row`. Refuses 2, 4, 5, 7.
-pub fn find_row(w: u32, count: usize, rows: &[u64], row: [u64; 16]) -> FoundRow
-    ensures { λ r. ⌜ foundSays r ≡ found w count (now (rows .entry)) row ⌝ }
+pub fn find_row(w: u32, atom_count: usize, atom_rows: &[u64], row: [u64; 16]) -> FoundRow
+    ensures { λ r. ⌜ foundSays r ≡ found w «atom_count» (now («atom_rows» .entry)) row ⌝ }
 {
     if limits::inner::bad_width(w) {
         return FoundRow::Refused(2);
     }
-    if rows.len() / ROW_WORDS < count {
+    if atom_rows.len() / ROW_WORDS < atom_count {
         return FoundRow::Refused(4);
     }
     if row_lent::inner::row_reaches(row, w) {
         return FoundRow::Refused(5);
     }
-    if ATOMS_MAX < count {
+    if ATOMS_MAX < atom_count {
         return FoundRow::Refused(7);
     }
-    least_slot(count, rows, row)
+    least_slot(atom_count, atom_rows, row)
 }
 
 // The least slot below the count whose row is `row`.
@@ -50,20 +50,20 @@ fn least_slot(count: usize, rows: &[u64], row: [u64; 16]) -> FoundRow
 }
 
 // The part of the row buffer that is one atom's row. Refuses 4, 7 with an empty part.
-pub fn atom_row(rows: &[u64], count: usize, slot: AtomSlot) -> &[u64]
-    ensures { λ r. ⌜ now r ≡ handedBack count (now (rows .entry)) (slot .0) ⌝ }
+pub fn atom_row(atom_rows: &[u64], atom_count: usize, slot: AtomSlot) -> &[u64]
+    ensures { λ r. ⌜ now r ≡ handedBack «atom_count» (now («atom_rows» .entry)) (slot .0) ⌝ }
 {
     let s = slot.0 as usize;
-    if rows.len() / ROW_WORDS < count {
-        return &rows[0..0];
+    if atom_rows.len() / ROW_WORDS < atom_count {
+        return &atom_rows[0..0];
     }
-    if ATOMS_MAX < count {
-        return &rows[0..0];
+    if ATOMS_MAX < atom_count {
+        return &atom_rows[0..0];
     }
-    if count <= s {
-        return &rows[0..0];
+    if atom_count <= s {
+        return &atom_rows[0..0];
     }
     let from = ROW_WORDS * s;
     let to = from + ROW_WORDS;
-    &rows[from..to]
+    &atom_rows[from..to]
 }

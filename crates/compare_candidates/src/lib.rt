@@ -49,13 +49,13 @@ fn rows_at(line: &[u64], n: usize) -> [u64; 3200]
 fn slots_at(line: &[u64], base: usize, n: usize) -> [u32; 200]
     requires { ⌜ (n ≤ 200) × (base + n ≤ length (now line)) ⌝ }
 {
-    let mut slots = [OLD_HALF; PAIRS_MAX];
+    let mut order = [OLD_HALF; PAIRS_MAX];
     let mut i: usize = 0;
     while i < n {
-        slots[i] = narrow(line[base + i]);
+        order[i] = narrow(line[base + i]);
         i += 1;
     }
-    slots
+    order
 }
 
 // 15 W N, first words, order list, P T ANSWER COUNT, slots
@@ -79,22 +79,22 @@ fn list_same(line: &[u64], n: usize, at: usize) -> bool
     requires { ⌜ (n ≤ 200) × (3 + n + n ≤ at) × (at + 4 ≤ length (now line)) ⌝ }
 {
     let rows = rows_at(line, n);
-    let slots = slots_at(line, 3 + n, n);
-    let mut list = [OLD_HALF; 250];
+    let order = slots_at(line, 3 + n, n);
+    let mut candidates = [OLD_HALF; 250];
     let r = search_candidates::collect_mul_probe0_candidates(
         narrow(line[1]),
         n,
         &rows,
-        &slots,
+        &order,
         line[at],
         line[at + 1],
-        &mut list,
+        &mut candidates,
     );
-    told_is(numbers_of(r), &list, line, at + 2)
+    told_is(numbers_of(r), &candidates, line, at + 2)
 }
 
 // Whether the answer, the count and the listed candidates are all that stands from `at` on.
-fn told_is(t: Told, list: &[u32], line: &[u64], at: usize) -> bool
+fn told_is(t: Told, candidates: &[u32], line: &[u64], at: usize) -> bool
     requires { ⌜ at + 2 ≤ length (now line) ⌝ }
 {
     if t.answer != line[at] {
@@ -106,21 +106,21 @@ fn told_is(t: Told, list: &[u32], line: &[u64], at: usize) -> bool
     if t.count != (line.len() - at - 2) as u64 {
         return false;
     }
-    list_is(list, line, at + 2)
+    list_is(candidates, line, at + 2)
 }
 
 // Whether the list begins with all the numbers from `base` on, and its other places are as they were.
-fn list_is(list: &[u32], line: &[u64], base: usize) -> bool
+fn list_is(candidates: &[u32], line: &[u64], base: usize) -> bool
     requires { ⌜ base ≤ length (now line) ⌝ }
 {
     let mut i = base;
     while i < line.len() {
-        if compare_lines::half_at(list, i - base) != line[i] {
+        if compare_lines::half_at(candidates, i - base) != line[i] {
             return false;
         }
         i += 1;
     }
-    compare_lines::halves_kept(list, line.len() - base)
+    compare_lines::halves_kept(candidates, line.len() - base)
 }
 
 // 18 W N LISTEDLEN ORDERLEN LISTLEN P T SWAP REFUSAL
@@ -128,28 +128,33 @@ pub fn candidates_refusal_same(line: &[u64]) -> bool {
     if line.len() != 10 {
         return false;
     }
-    let listed = [0u64; 8000];
-    let slots = compare_lines::zero_order(line[8]);
-    let mut list = [OLD_HALF; 8000];
-    let t = candidates_of_parts(&mut list, &listed, &slots, line);
+    let pair_rows = [0u64; 8000];
+    let order = compare_lines::zero_order(line[8]);
+    let mut candidates = [OLD_HALF; 8000];
+    let t = candidates_of_parts(&mut candidates, &pair_rows, &order, line);
     if !refusal_is(t, line[9]) {
         return false;
     }
-    compare_lines::halves_kept(&list, t.count as usize)
+    compare_lines::halves_kept(&candidates, t.count as usize)
 }
 
 // The candidates over parts of the arrays, as long as the line says.
-fn candidates_of_parts(list: &mut [u32], listed: &[u64], slots: &[u32], line: &[u64]) -> Told
+fn candidates_of_parts(
+    candidates: &mut [u32],
+    pair_rows: &[u64],
+    order: &[u32],
+    line: &[u64],
+) -> Told
     requires { ⌜ 10 ≤ length (now line) ⌝ }
 {
     let r = search_candidates::collect_mul_probe0_candidates(
         narrow(line[1]),
         line[2] as usize,
-        compare_lines::first_words(listed, line[3]),
-        compare_lines::first_halves(slots, line[4]),
+        compare_lines::first_words(pair_rows, line[3]),
+        compare_lines::first_halves(order, line[4]),
         line[6],
         line[7],
-        compare_lines::first_halves_mut(list, line[5]),
+        compare_lines::first_halves_mut(candidates, line[5]),
     );
     numbers_of(r)
 }

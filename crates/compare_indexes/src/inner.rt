@@ -22,28 +22,28 @@ fn words_are(s: &[u64], n: usize, digest: u64) -> bool {
 }
 
 // Whether the index of `count` rows, of at most 500 pairs, is the one that stands from `at` on.
-pub fn index_is(line: &[u64], at: usize, count: usize, rows: &[u64]) -> bool
+pub fn index_is(line: &[u64], at: usize, atom_count: usize, atom_rows: &[u64]) -> bool
     requires { ⌜ at + 7 ≤ length (now line) ⌝ }
 {
     let mut pairs = [OLD_HALF; 1500];
-    let mut listed = [OLD_WORD; 8000];
-    let mut slots = [OLD_HALF; 500];
+    let mut pair_rows = [OLD_WORD; 8000];
+    let mut order = [OLD_HALF; 500];
     let mut work = [OLD_HALF; 3916];
     let built = index::build_index(
         narrow(line[at]),
-        count,
-        rows,
+        atom_count,
+        atom_rows,
         line[at + 1] as usize,
         &mut pairs,
-        &mut listed,
-        &mut slots,
+        &mut pair_rows,
+        &mut order,
         &mut work,
     );
     let n = pairs_of(built, line[at + 3]);
     if n != line[at + 2] {
         return false;
     }
-    arrays_are(line, at, narrow(n) as usize, &pairs, &listed, &slots)
+    arrays_are(line, at, narrow(n) as usize, &pairs, &pair_rows, &order)
 }
 
 // How many pairs an answer has, if it has the mark; else more than there can be.
@@ -70,16 +70,16 @@ fn arrays_are(
     at: usize,
     n: usize,
     pairs: &[u32],
-    listed: &[u64],
-    slots: &[u32],
+    pair_rows: &[u64],
+    order: &[u32],
 ) -> bool
     requires { ⌜ (n < 2 ^ 32) × (at + 7 ≤ length (now line)) ⌝ }
 {
     if !halves_are(pairs, 3 * n, line[at + 4]) {
         return false;
     }
-    if !words_are(listed, 16 * n, line[at + 5]) {
+    if !words_are(pair_rows, 16 * n, line[at + 5]) {
         return false;
     }
-    halves_are(slots, n, line[at + 6])
+    halves_are(order, n, line[at + 6])
 }

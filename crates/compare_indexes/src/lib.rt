@@ -14,27 +14,34 @@ pub fn index_refusal_same(line: &[u64]) -> bool {
         return false;
     }
     let mut pairs = [OLD_HALF; 8000];
-    let mut listed = [OLD_WORD; 8000];
-    let mut slots = [OLD_HALF; 8000];
+    let mut pair_rows = [OLD_WORD; 8000];
+    let mut order = [OLD_HALF; 8000];
     let mut work = [OLD_HALF; 8000];
-    let rows = [OLD_WORD; 8000];
-    let number = index_refusal(&mut pairs, &mut listed, &mut slots, &mut work, &rows, line);
+    let atom_rows = [OLD_WORD; 8000];
+    let number = index_refusal(
+        &mut pairs,
+        &mut pair_rows,
+        &mut order,
+        &mut work,
+        &atom_rows,
+        line,
+    );
     if number != line[9] {
         return false;
     }
     if number == 0 {
         return true;
     }
-    all_kept(&pairs, &listed, &slots, &work)
+    all_kept(&pairs, &pair_rows, &order, &work)
 }
 
 // The refusal of a build into parts of the arrays, as long as the line says; 0 for none.
 fn index_refusal(
     pairs: &mut [u32],
-    listed: &mut [u64],
-    slots: &mut [u32],
+    pair_rows: &mut [u64],
+    order: &mut [u32],
     work: &mut [u32],
-    rows: &[u64],
+    atom_rows: &[u64],
     line: &[u64],
 ) -> u64
     requires { ⌜ 10 ≤ length (now line) ⌝ }
@@ -42,11 +49,11 @@ fn index_refusal(
     let built = index::build_index(
         narrow(line[1]),
         line[2] as usize,
-        compare_lines::first_words(rows, line[3]),
+        compare_lines::first_words(atom_rows, line[3]),
         line[4] as usize,
         compare_lines::first_halves_mut(pairs, line[5]),
-        compare_lines::first_words_mut(listed, line[6]),
-        compare_lines::first_halves_mut(slots, line[7]),
+        compare_lines::first_words_mut(pair_rows, line[6]),
+        compare_lines::first_halves_mut(order, line[7]),
         compare_lines::first_halves_mut(work, line[8]),
     );
     refusal_of(built)
@@ -60,14 +67,14 @@ fn refusal_of(r: IndexAnswer) -> u64 {
 }
 
 // Whether a refused build left its arrays alone.
-fn all_kept(pairs: &[u32], listed: &[u64], slots: &[u32], work: &[u32]) -> bool {
+fn all_kept(pairs: &[u32], pair_rows: &[u64], order: &[u32], work: &[u32]) -> bool {
     if !compare_lines::halves_kept(pairs, 0) {
         return false;
     }
-    if !compare_lines::words_kept(listed, 0) {
+    if !compare_lines::words_kept(pair_rows, 0) {
         return false;
     }
-    if !compare_lines::halves_kept(slots, 0) {
+    if !compare_lines::halves_kept(order, 0) {
         return false;
     }
     compare_lines::halves_kept(work, 0)

@@ -131,15 +131,15 @@ pub fn words_kept(s: &[u64], from: usize) -> bool {
 
 // The order list of rows of zeros: 0, 1, 2 and so on; the first two exchanged if `swap` is 1.
 pub fn zero_order(swap: u64) -> [u32; 8000] {
-    let mut slots = [0u32; 8000];
+    let mut order = [0u32; 8000];
     let mut i: u32 = 0;
     while i < 8000 {
-        slots[i as usize] = i;
+        order[i as usize] = i;
         i += 1;
     }
     if swap == 1 {
-        slots[0] = 1;
-        slots[1] = 0;
+        order[0] = 1;
+        order[1] = 0;
     }
-    slots
+    order
 }

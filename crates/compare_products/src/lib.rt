@@ -20,33 +20,33 @@ pub fn product_same(line: &[u64]) -> bool {
     if line.len() != at + 37 {
         return false;
     }
-    let mut rows = [0u64; 7664];
-    let count = compare_banks::inner::bank_rows(&mut rows, line, nv);
-    search_is(line, at + 16, count, &rows)
+    let mut atom_rows = [0u64; 7664];
+    let atom_count = compare_banks::inner::bank_rows(&mut atom_rows, line, nv);
+    search_is(line, at + 16, atom_count, &atom_rows)
 }
 
 // Whether the search over these atoms and their index, of at most 500 pairs, answers as stands from `at` on.
-fn search_is(line: &[u64], at: usize, count: usize, rows: &[u64]) -> bool
+fn search_is(line: &[u64], at: usize, atom_count: usize, atom_rows: &[u64]) -> bool
     requires { ⌜ (at ≤ 500) × (at + 21 ≤ length (now line)) ⌝ }
 {
     let mut pairs = [0u32; 1500];
-    let mut listed = [OLD_WORD; 8000];
-    let mut slots = [OLD_HALF; 500];
+    let mut pair_rows = [OLD_WORD; 8000];
+    let mut order = [OLD_HALF; 500];
     let mut work = [0u32; 3916];
     let w = narrow(line[at]);
     let built = index::build_index(
         w,
-        count,
-        rows,
+        atom_count,
+        atom_rows,
         line[at + 1] as usize,
         &mut pairs,
-        &mut listed,
-        &mut slots,
+        &mut pair_rows,
+        &mut order,
         &mut work,
     );
     let n = pairs_of(built);
     let row = compare_lines::inner::row_at(line, at + 2);
-    let r = search_product::product_search(w, count, rows, n, &listed, &slots, row);
+    let r = search_product::product_search(w, atom_count, atom_rows, n, &pair_rows, &order, row);
     product_is(r, line, at + 18)
 }
 
@@ -87,14 +87,14 @@ pub fn product_refusal_same(line: &[u64]) -> bool {
     if line.len() != 10 {
         return false;
     }
-    let atoms = [0u64; 8000];
-    let listed = [0u64; 8000];
-    let slots = compare_lines::zero_order(line[8]);
-    product_refusal(&atoms, &listed, &slots, line) == line[9]
+    let atom_rows = [0u64; 8000];
+    let pair_rows = [0u64; 8000];
+    let order = compare_lines::zero_order(line[8]);
+    product_refusal(&atom_rows, &pair_rows, &order, line) == line[9]
 }
 
 // The refusal of a search over parts of the arrays, as long as the line says; 0 for none.
-fn product_refusal(atoms: &[u64], listed: &[u64], slots: &[u32], line: &[u64]) -> u64
+fn product_refusal(atom_rows: &[u64], pair_rows: &[u64], order: &[u32], line: &[u64]) -> u64
     requires { ⌜ 10 ≤ length (now line) ⌝ }
 {
     let mut target = [0u64; 16];
@@ -102,10 +102,10 @@ fn product_refusal(atoms: &[u64], listed: &[u64], slots: &[u32], line: &[u64]) -
     let r = search_product::product_search(
         narrow(line[1]),
         line[2] as usize,
-        compare_lines::first_words(atoms, line[3]),
+        compare_lines::first_words(atom_rows, line[3]),
         line[4] as usize,
-        compare_lines::first_words(listed, line[5]),
-        compare_lines::first_halves(slots, line[6]),
+        compare_lines::first_words(pair_rows, line[5]),
+        compare_lines::first_halves(order, line[6]),
         target,
     );
     refusal_of(r)

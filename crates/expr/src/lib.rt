@@ -80,18 +80,18 @@ fn takes(t: Token) -> usize
 }
 
 // Whether the first `count` tokens are a formula over nv variables: 1 to 64 of them, all known, no operand missing, one value left.
-pub fn is_formula(nv: u32, count: usize, ops: &[u8], operands: &[u64]) -> bool
-    ensures { λ r. ⌜ r ≡ isFormula nv (tokens count (now (ops .entry)) (now (operands .entry))) ⌝ }
+pub fn is_formula(nv: u32, token_count: usize, ops: &[u8], operands: &[u64]) -> bool
+    ensures { λ r. ⌜ r ≡ isFormula nv (tokens «token_count» (now (ops .entry)) (now (operands .entry))) ⌝ }
 {
-    if count < 1 {
+    if token_count < 1 {
         return false;
     }
-    if MAX_TOKENS < count {
+    if MAX_TOKENS < token_count {
         return false;
     }
     let mut depth: usize = 0;
     let mut i: usize = 0;
-    while i < count {
+    while i < token_count {
         let t = token_at(ops, operands, i);
         i += 1;
         if !is_known(t, nv) {

@@ -25,17 +25,17 @@ pub struct CostAnswer {
 }
 
 // The cost of a formula. Refuses 1, 4, 6.
-pub fn compute_cost(nv: u32, count: usize, ops: &[u8], operands: &[u64]) -> CostAnswer
-    ensures { λ r. ⌜ r ≡ costed nv count (now (ops .entry)) (now (operands .entry)) ⌝ }
+pub fn compute_cost(nv: u32, token_count: usize, ops: &[u8], operands: &[u64]) -> CostAnswer
+    ensures { λ r. ⌜ r ≡ costed nv «token_count» (now (ops .entry)) (now (operands .entry)) ⌝ }
 {
     if limits::inner::bad_count(nv) {
         return cost_refused(1);
     }
-    if expr::inner::too_short(count, ops, operands) {
+    if expr::inner::too_short(token_count, ops, operands) {
         return cost_refused(4);
     }
-    if expr::is_formula(nv, count, ops, operands) {
-        let whole = inner::cost_before(ops, operands, count);
+    if expr::is_formula(nv, token_count, ops, operands) {
+        let whole = inner::cost_before(ops, operands, token_count);
         let cost = whole.info.cost;
         CostAnswer { refusal: 0, cost }
     } else {

@@ -15,24 +15,24 @@ const WORK_WORDS: usize = 4;
 
 // Whether an array is too short, by the arrays' lengths: refusal 4.
 fn too_short(
-    count: usize,
+    atom_count: usize,
     limit: usize,
-    rows: usize,
+    atom_rows: usize,
     pairs: usize,
-    listed: usize,
+    pair_rows: usize,
     order: usize,
     work: usize,
 ) -> bool
     requires { ⌜ limit ≤ pairsMax ⌝ }
-    ensures { λ r. ⌜ r ≡ tooShort count limit rows pairs listed order work ⌝ }
+    ensures { λ r. ⌜ r ≡ tooShort «atom_count» limit «atom_rows» pairs «pair_rows» order work ⌝ }
 {
-    if rows / row_gates::ROW_WORDS < count {
+    if atom_rows / row_gates::ROW_WORDS < atom_count {
         return true;
     }
     if pairs / PAIR_WORDS < limit {
         return true;
     }
-    if listed / row_gates::ROW_WORDS < limit {
+    if pair_rows / row_gates::ROW_WORDS < limit {
         return true;
     }
     if order < limit {
@@ -44,15 +44,15 @@ fn too_short(
 // The refusal of a build, by the arrays' lengths; 0 for none.
 pub fn refusal_of(
     w: u32,
-    count: usize,
+    atom_count: usize,
     limit: usize,
-    rows: usize,
+    atom_rows: usize,
     pairs: usize,
-    listed: usize,
+    pair_rows: usize,
     order: usize,
     work: usize,
 ) -> u32
-    ensures { λ r. ⌜ r ≡ refusalOf w count limit rows pairs listed order work ⌝ }
+    ensures { λ r. ⌜ r ≡ refusalOf w «atom_count» limit «atom_rows» pairs «pair_rows» order work ⌝ }
 {
     if limits::inner::bad_width(w) {
         return 2;
@@ -60,10 +60,10 @@ pub fn refusal_of(
     if PAIRS_MAX < limit {
         return 3;
     }
-    if too_short(count, limit, rows, pairs, listed, order, work) {
+    if too_short(atom_count, limit, atom_rows, pairs, pair_rows, order, work) {
         return 4;
     }
-    if ATOMS_MAX < count {
+    if ATOMS_MAX < atom_count {
         return 7;
     }
     0
@@ -74,14 +74,14 @@ pub fn build(
     work: &mut [u32],
     pairs: &mut [u32],
     listed: &mut [u64],
-    slots: &mut [u32],
-    rows: &[u64],
+    order: &mut [u32],
+    atoms: &[u64],
     w: u32,
     count: usize,
     limit: usize,
 ) -> Tally
-    requires { ⌜ Fits w count limit (now rows) (now work) (now pairs) (now listed) (now slots) ⌝ }
-    ensures { λ r. ⌜ Made w count limit (now (rows .entry)) (now (pairs .entry)) (now (listed .entry)) (now (slots .entry)) (now (pairs .exit)) (now (listed .exit)) (now (slots .exit)) r ⌝ }
+    requires { ⌜ Fits w count limit (now atoms) (now work) (now pairs) (now listed) (now order) ⌝ }
+    ensures { λ r. ⌜ Made w count limit (now (atoms .entry)) (now (pairs .entry)) (now (listed .entry)) (now (order .entry)) (now (pairs .exit)) (now (listed .exit)) (now (order .exit)) r ⌝ }
 {
     let bits = index_maps::inner::map_bits(limit, count);
     let job = Job {
@@ -90,9 +90,9 @@ pub fn build(
         limit,
         bits,
     };
-    index_maps::inner::prepare(work, rows, job);
-    let tally = index_loops::inner::try_gates(work, pairs, listed, rows, job);
+    index_maps::inner::prepare(work, atoms, job);
+    let tally = index_loops::inner::try_gates(work, pairs, listed, atoms, job);
     let n = tally.pairs;
-    index_sort::inner::sort_order(slots, work, listed, n);
+    index_sort::inner::sort_order(order, work, listed, n);
     tally
 }

@@ -13,30 +13,39 @@ pub enum IndexAnswer {
 // Refuses 2, 3, 4, 7.
 pub fn build_index(
     w: u32,
-    count: usize,
-    rows: &[u64],
+    atom_count: usize,
+    atom_rows: &[u64],
     limit: usize,
     pairs: &mut [u32],
-    listed: &mut [u64],
-    slots: &mut [u32],
+    pair_rows: &mut [u64],
+    order: &mut [u32],
     work: &mut [u32],
 ) -> IndexAnswer
-    ensures { λ r. ⌜ IndexBuilt w count (now (rows .entry)) limit (arraysOf (now (pairs .entry)) (now (listed .entry)) (now (slots .entry)) (now (work .entry))) (arraysOf (now (pairs .exit)) (now (listed .exit)) (now (slots .exit)) (now (work .exit))) r ⌝ }
+    ensures { λ r. ⌜ IndexBuilt w «atom_count» (now («atom_rows» .entry)) limit (arraysOf (now (pairs .entry)) (now («pair_rows» .entry)) (now (order .entry)) (now (work .entry))) (arraysOf (now (pairs .exit)) (now («pair_rows» .exit)) (now (order .exit)) (now (work .exit))) r ⌝ }
 {
     let refusal = inner::refusal_of(
         w,
-        count,
+        atom_count,
         limit,
-        rows.len(),
+        atom_rows.len(),
         pairs.len(),
-        listed.len(),
-        slots.len(),
+        pair_rows.len(),
+        order.len(),
         work.len(),
     );
     if refusal != 0 {
         return IndexAnswer::Refused(refusal);
     }
-    let made = inner::build(work, pairs, listed, slots, rows, w, count, limit);
+    let made = inner::build(
+        work,
+        pairs,
+        pair_rows,
+        order,
+        atom_rows,
+        w,
+        atom_count,
+        limit,
+    );
     IndexAnswer::Built {
         pairs: made.pairs as u32,
         cut: made.cut,

@@ -30,21 +30,21 @@ fn try_with(
     work: &mut [u32],
     pairs: &mut [u32],
     listed: &mut [u64],
-    rows: &[u64],
+    atoms: &[u64],
     job: Job,
     n: usize,
     g: Gate,
     b: AtomSlot,
 ) -> Tally
-    requires { ⌜ Ready job (now rows) (now work) (now pairs) (now listed) n × (b .0 < job .count) ⌝ }
-    ensures { λ r. ⌜ Ran job (now (rows .entry)) (now (pairs .entry)) (now (listed .entry)) n (now (work .exit)) (now (pairs .exit)) (now (listed .exit)) r (trialsWith (job .count) g (b .0)) ⌝ }
+    requires { ⌜ Ready job (now atoms) (now work) (now pairs) (now listed) n × (b .0 < job .count) ⌝ }
+    ensures { λ r. ⌜ Ran job (now (atoms .entry)) (now (pairs .entry)) (now (listed .entry)) n (now (work .exit)) (now (pairs .exit)) (now (listed .exit)) r (trialsWith (job .count) g (b .0)) ⌝ }
 {
     let count = job.count;
     let mut made = n;
     let mut c = first_c(g, b.0 as usize);
     while c < count {
         let slot = AtomSlot(c as u32);
-        let t = index_trial::inner::try_pair(work, pairs, listed, rows, job, made, g, b, slot);
+        let t = index_trial::inner::try_pair(work, pairs, listed, atoms, job, made, g, b, slot);
         c += 1;
         if t.cut {
             return t;
@@ -62,20 +62,20 @@ fn try_gate(
     work: &mut [u32],
     pairs: &mut [u32],
     listed: &mut [u64],
-    rows: &[u64],
+    atoms: &[u64],
     job: Job,
     n: usize,
     g: Gate,
 ) -> Tally
-    requires { ⌜ Ready job (now rows) (now work) (now pairs) (now listed) n ⌝ }
-    ensures { λ r. ⌜ Ran job (now (rows .entry)) (now (pairs .entry)) (now (listed .entry)) n (now (work .exit)) (now (pairs .exit)) (now (listed .exit)) r (trialsOfGate (job .count) g) ⌝ }
+    requires { ⌜ Ready job (now atoms) (now work) (now pairs) (now listed) n ⌝ }
+    ensures { λ r. ⌜ Ran job (now (atoms .entry)) (now (pairs .entry)) (now (listed .entry)) n (now (work .exit)) (now (pairs .exit)) (now (listed .exit)) r (trialsOfGate (job .count) g) ⌝ }
 {
     let count = job.count;
     let mut made = n;
     let mut b: usize = 0;
     while b < count {
         let slot = AtomSlot(b as u32);
-        let t = try_with(work, pairs, listed, rows, job, made, g, slot);
+        let t = try_with(work, pairs, listed, atoms, job, made, g, slot);
         b += 1;
         if t.cut {
             return t;
@@ -93,17 +93,17 @@ pub fn try_gates(
     work: &mut [u32],
     pairs: &mut [u32],
     listed: &mut [u64],
-    rows: &[u64],
+    atoms: &[u64],
     job: Job,
 ) -> Tally
-    requires { ⌜ Ready job (now rows) (now work) (now pairs) (now listed) 0 ⌝ }
-    ensures { λ r. ⌜ Ran job (now (rows .entry)) (now (pairs .entry)) (now (listed .entry)) 0 (now (work .exit)) (now (pairs .exit)) (now (listed .exit)) r (trialsOf allGates (job .count)) ⌝ }
+    requires { ⌜ Ready job (now atoms) (now work) (now pairs) (now listed) 0 ⌝ }
+    ensures { λ r. ⌜ Ran job (now (atoms .entry)) (now (pairs .entry)) (now (listed .entry)) 0 (now (work .exit)) (now (pairs .exit)) (now (listed .exit)) r (trialsOf allGates (job .count)) ⌝ }
 {
     let mut made: usize = 0;
     let mut k: u32 = 0;
     while k < GATES {
         let g = row_gates::inner::gate_at(k);
-        let t = try_gate(work, pairs, listed, rows, job, made, g);
+        let t = try_gate(work, pairs, listed, atoms, job, made, g);
         k += 1;
         if t.cut {
             return t;

@@ -54,45 +54,45 @@ pub fn map_bits(limit: usize, count: usize) -> u32
 }
 
 // The chain of atom i in the bank's map.
-fn bank_home(rows: &[u64], i: usize) -> u32
-    requires { ⌜ 16 * i + 16 ≤ length (now rows) ⌝ }
-    ensures { λ r. ⌜ (r ≡ homeOf bankBits (partAt 16 (now (rows .entry)) i)) × (r < 2 ^ bankBits) ⌝ }
+fn bank_home(atoms: &[u64], i: usize) -> u32
+    requires { ⌜ 16 * i + 16 ≤ length (now atoms) ⌝ }
+    ensures { λ r. ⌜ (r ≡ homeOf bankBits (partAt 16 (now (atoms .entry)) i)) × (r < 2 ^ bankBits) ⌝ }
 {
-    let row = row_lent::inner::load_row(rows, i);
+    let row = row_lent::inner::load_row(atoms, i);
     arith::reduce(row_fingerprint::fingerprint(row), BANK_BITS) as u32
 }
 
 // The map of the bank's rows. Rows may be equal: only whether a row is there matters.
-fn fill_bank_map(map: &mut [u32], rows: &[u64], count: usize)
-    requires { ⌜ (length (now map) ≡ bankArea) × (count ≤ atomsMax) × (16 * count ≤ length (now rows)) ⌝ }
-    ensures { λ _. ⌜ Held (now (map .exit)) (now (rows .entry)) bankBits count ⌝ }
+fn fill_bank_map(map: &mut [u32], atoms: &[u64], count: usize)
+    requires { ⌜ (length (now map) ≡ bankArea) × (count ≤ atomsMax) × (16 * count ≤ length (now atoms)) ⌝ }
+    ensures { λ _. ⌜ Held (now (map .exit)) (now (atoms .entry)) bankBits count ⌝ }
 {
     row_map::inner::clear(map, BANK_BITS);
     let mut i: usize = 0;
     while i < count {
-        let home = bank_home(rows, i);
+        let home = bank_home(atoms, i);
         row_map::inner::insert(map, BANK_BITS, i, home);
         i += 1;
     }
 }
 
 // Both maps before the first trial.
-pub fn prepare(work: &mut [u32], rows: &[u64], job: Job)
-    requires { ⌜ (job .count ≤ atomsMax) × (16 * job .count ≤ length (now rows)) × (job .bits ≤ 31) × (bankArea + 2 ^ job .bits ≤ length (now work)) ⌝ }
-    ensures { λ _. ⌜ Prepared job (now (rows .entry)) (now (work .exit)) ⌝ }
+pub fn prepare(work: &mut [u32], atoms: &[u64], job: Job)
+    requires { ⌜ (job .count ≤ atomsMax) × (16 * job .count ≤ length (now atoms)) × (job .bits ≤ 31) × (bankArea + 2 ^ job .bits ≤ length (now work)) ⌝ }
+    ensures { λ _. ⌜ Prepared job (now (atoms .entry)) (now (work .exit)) ⌝ }
 {
-    fill_bank_map(&mut work[0..BANK_AREA], rows, job.count);
+    fill_bank_map(&mut work[0..BANK_AREA], atoms, job.count);
     row_map::inner::clear(&mut work[BANK_AREA..], job.bits);
 }
 
 // Whether the bank holds a row.
-pub fn in_bank(work: &[u32], rows: &[u64], count: usize, row: [u64; 16], print: u64) -> bool
-    requires { ⌜ (bankArea ≤ length (now work)) × Searchable (take bankArea (now work)) bankBits (now rows) count ⌝ }
+pub fn in_bank(work: &[u32], atoms: &[u64], count: usize, row: [u64; 16], print: u64) -> bool
+    requires { ⌜ (bankArea ≤ length (now work)) × Searchable (take bankArea (now work)) bankBits (now atoms) count ⌝ }
     requires { ⌜ print ≡ fingerprintOf row ⌝ }
-    ensures { λ r. ⌜ r ≡ holds (rowsOf count (now (rows .entry))) row ⌝ }
+    ensures { λ r. ⌜ r ≡ holds (rowsOf count (now (atoms .entry))) row ⌝ }
 {
     let map = &work[0..BANK_AREA];
-    let found = row_map::inner::find_by(map, BANK_BITS, rows, count, row, print);
+    let found = row_map::inner::find_by(map, BANK_BITS, atoms, count, row, print);
     match found {
         Lookup::At(_) => true,
         Lookup::Free(_) => false,

@@ -34,16 +34,16 @@ fn gate_number(g: Gate) -> u32
 }
 
 // The gate of rows b and c, straight from the lent rows: so LLVM makes vectors of it.
-fn gate_of_rows(rows: &[u64], b: AtomSlot, c: AtomSlot, g: Gate, w: u32) -> [u64; 16]
-    requires { ⌜ (16 * b .0 + 16 ≤ length (now rows)) × (16 * c .0 + 16 ≤ length (now rows)) × (w ≤ 64) ⌝ }
-    ensures { λ r. ⌜ r ≡ gateRow g w (partAt 16 (now (rows .entry)) (b .0)) (partAt 16 (now (rows .entry)) (c .0)) ⌝ }
+fn gate_of_rows(atoms: &[u64], b: AtomSlot, c: AtomSlot, g: Gate, w: u32) -> [u64; 16]
+    requires { ⌜ (16 * b .0 + 16 ≤ length (now atoms)) × (16 * c .0 + 16 ≤ length (now atoms)) × (w ≤ 64) ⌝ }
+    ensures { λ r. ⌜ r ≡ gateRow g w (partAt 16 (now (atoms .entry)) (b .0)) (partAt 16 (now (atoms .entry)) (c .0)) ⌝ }
 {
     let at_b = ROW_WORDS * b.0 as usize;
     let at_c = ROW_WORDS * c.0 as usize;
     let mut row = [0u64; ROW_WORDS];
     let mut i: usize = 0;
     while i < ROW_WORDS {
-        row[i] = row_gates::inner::gate_apply_lane(rows[at_b + i], rows[at_c + i], g, w);
+        row[i] = row_gates::inner::gate_apply_lane(atoms[at_b + i], atoms[at_c + i], g, w);
         i += 1;
     }
     row
@@ -84,7 +84,7 @@ fn list_pair(
     work: &mut [u32],
     pairs: &mut [u32],
     listed: &mut [u64],
-    rows: &[u64],
+    atoms: &[u64],
     job: Job,
     n: PairSlot,
     home: u32,
@@ -93,8 +93,8 @@ fn list_pair(
     c: AtomSlot,
     row: [u64; 16],
 )
-    requires { ⌜ Ready job (now rows) (now work) (now pairs) (now listed) (n .0) × Listable job (n .0) home row (b .0) (c .0) ⌝ }
-    ensures { λ _. ⌜ ListedPair job (now (rows .entry)) (now (pairs .entry)) (now (listed .entry)) (now (work .exit)) (now (pairs .exit)) (now (listed .exit)) (n .0) g (b .0) (c .0) row ⌝ }
+    requires { ⌜ Ready job (now atoms) (now work) (now pairs) (now listed) (n .0) × Listable job (n .0) home row (b .0) (c .0) ⌝ }
+    ensures { λ _. ⌜ ListedPair job (now (atoms .entry)) (now (pairs .entry)) (now (listed .entry)) (now (work .exit)) (now (pairs .exit)) (now (listed .exit)) (n .0) g (b .0) (c .0) row ⌝ }
 {
     put_row(listed, n, row);
     put_pair(pairs, n, g, b, c);
@@ -106,19 +106,19 @@ pub fn try_pair(
     work: &mut [u32],
     pairs: &mut [u32],
     listed: &mut [u64],
-    rows: &[u64],
+    atoms: &[u64],
     job: Job,
     n: usize,
     g: Gate,
     b: AtomSlot,
     c: AtomSlot,
 ) -> Tally
-    requires { ⌜ Ready job (now rows) (now work) (now pairs) (now listed) n × (b .0 < job .count) × (c .0 < job .count) ⌝ }
-    ensures { λ r. ⌜ Ran job (now (rows .entry)) (now (pairs .entry)) (now (listed .entry)) n (now (work .exit)) (now (pairs .exit)) (now (listed .exit)) r (trial g (b .0) (c .0) ∷ []) ⌝ }
+    requires { ⌜ Ready job (now atoms) (now work) (now pairs) (now listed) n × (b .0 < job .count) × (c .0 < job .count) ⌝ }
+    ensures { λ r. ⌜ Ran job (now (atoms .entry)) (now (pairs .entry)) (now (listed .entry)) n (now (work .exit)) (now (pairs .exit)) (now (listed .exit)) r (trial g (b .0) (c .0) ∷ []) ⌝ }
 {
-    let row = gate_of_rows(rows, b, c, g, job.w);
+    let row = gate_of_rows(atoms, b, c, g, job.w);
     let print = row_fingerprint::fingerprint(row);
-    if index_maps::inner::in_bank(work, rows, job.count, row, print) {
+    if index_maps::inner::in_bank(work, atoms, job.count, row, print) {
         return Tally {
             pairs: n,
             cut: false, // the bank holds the row
@@ -137,7 +137,7 @@ pub fn try_pair(
                 };
             }
             let slot = PairSlot(n as u32);
-            list_pair(work, pairs, listed, rows, job, slot, home, g, b, c, row);
+            list_pair(work, pairs, listed, atoms, job, slot, home, g, b, c, row);
             Tally {
                 pairs: n + 1,
                 cut: false, // the row is new, and there was room

@@ -148,7 +148,7 @@ fn build_both(
     work: &mut [u32],
     pairs: &mut [u32],
     listed: &mut [u64],
-    slots: &mut [u32],
+    order: &mut [u32],
     nv: u32,
     w: u32,
     limit: usize,
@@ -156,7 +156,7 @@ fn build_both(
     target: [u64; 16],
 ) -> Counts
     requires { ⌜ Asked nv w × (limit ≤ 500) ⌝ }
-    requires { ⌜ Lent (arrays (now lengths) (now ops) (now operands) (now costs) (now rows)) (now work) (now pairs) (now listed) (now slots) ⌝ }
+    requires { ⌜ Lent (arrays (now lengths) (now ops) (now operands) (now costs) (now rows)) (now work) (now pairs) (now listed) (now order) ⌝ }
     ensures { λ r. ⌜ Both (now (lengths .exit)) (now (ops .exit)) (now (operands .exit)) (now (costs .exit)) (now (pairs .exit)) r (bankOf nv w points target) (bankIndex w limit (bankOf nv w points target)) ⌝ }
 {
     let atoms = bank_phases::inner::build(
@@ -171,7 +171,7 @@ fn build_both(
         points,
         target,
     );
-    let made = index::inner::build(work, pairs, listed, slots, rows, w, atoms, limit);
+    let made = index::inner::build(work, pairs, listed, order, rows, w, atoms, limit);
     Counts {
         atoms,
         pairs: made.pairs,
@@ -200,7 +200,7 @@ fn list_bank(
     let mut work = [0u32; AREA_WORDS];
     let mut pairs = [0u32; PAIR_WORDS * PAIRS_MAX];
     let mut listed = [0u64; ROW_WORDS * PAIRS_MAX];
-    let mut slots = [0u32; PAIRS_MAX];
+    let mut order = [0u32; PAIRS_MAX];
     let built = build_both(
         &mut lengths,
         &mut ops,
@@ -210,7 +210,7 @@ fn list_bank(
         &mut work,
         &mut pairs,
         &mut listed,
-        &mut slots,
+        &mut order,
         nv,
         w,
         limit,

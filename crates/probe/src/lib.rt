@@ -14,11 +14,11 @@ pub fn probe(
     nv: u32,
     w: u32,
     points: [Point; 16],
-    count: usize,
+    token_count: usize,
     ops: &[u8],
     operands: &[u64],
 ) -> RowAnswer
-    ensures { λ r. ⌜ r ≡ probed nv w points count (now (ops .entry)) (now (operands .entry)) ⌝ }
+    ensures { λ r. ⌜ r ≡ probed nv w points «token_count» (now (ops .entry)) (now (operands .entry)) ⌝ }
 {
     if limits::inner::bad_count(nv) {
         return row_gates::inner::refused_row(1);
@@ -26,11 +26,11 @@ pub fn probe(
     if limits::inner::bad_width(w) {
         return row_gates::inner::refused_row(2);
     }
-    if expr::inner::too_short(count, ops, operands) {
+    if expr::inner::too_short(token_count, ops, operands) {
         return row_gates::inner::refused_row(4);
     }
-    if expr::is_formula(nv, count, ops, operands) {
-        let row = row_at_points(w, points, count, ops, operands);
+    if expr::is_formula(nv, token_count, ops, operands) {
+        let row = row_at_points(w, points, token_count, ops, operands);
         RowAnswer { refusal: 0, row }
     } else {
         row_gates::inner::refused_row(6)

@@ -10,25 +10,25 @@ ghost use Rattle.search_candidates.specs.Steps.{Kept};
 // The refusal of the candidates; 0 for none.
 pub fn candidates_refusal(
     w: u32,
-    pairs: usize,
-    listed: &[u64],
-    slots: &[u32],
+    pair_count: usize,
+    pair_rows: &[u64],
+    order: &[u32],
     p: u64,
     t: u64,
-    list: &[u32],
+    candidates: &[u32],
 ) -> u32
-    ensures { λ r. ⌜ r ≡ candidatesRefusal w pairs (now (listed .entry)) (now (slots .entry)) p t (now (list .entry)) ⌝ }
+    ensures { λ r. ⌜ r ≡ candidatesRefusal w «pair_count» (now («pair_rows» .entry)) (now (order .entry)) p t (now (candidates .entry)) ⌝ }
 {
     if limits::inner::bad_width(w) {
         return 2;
     }
-    if listed.len() / row_gates::ROW_WORDS < pairs {
+    if pair_rows.len() / row_gates::ROW_WORDS < pair_count {
         return 4;
     }
-    if slots.len() < pairs {
+    if order.len() < pair_count {
         return 4;
     }
-    if list.len() < pairs {
+    if candidates.len() < pair_count {
         return 4;
     }
     let mask = arith::bitmask(w);
@@ -38,10 +38,10 @@ pub fn candidates_refusal(
     if mask < t {
         return 5;
     }
-    if limits::PAIRS_MAX < pairs {
+    if limits::PAIRS_MAX < pair_count {
         return 7;
     }
-    if index_order::inner::is_order(listed, pairs, slots) {
+    if index_order::inner::is_order(pair_rows, pair_count, order) {
         return 0;
     }
     8
@@ -51,21 +51,21 @@ pub fn candidates_refusal(
 pub fn collect(
     list: &mut [u32],
     listed: &[u64],
-    slots: &[u32],
+    order: &[u32],
     n: usize,
     class: search_filter::inner::Residue,
 ) -> usize
-    requires { ⌜ Ordered n (now listed) (now slots) × Small class × (n ≤ length (now list)) ⌝ }
-    ensures { λ r. ⌜ Kept (inClass class (now (listed .entry))) n (now (slots .entry)) (now (list .entry)) (now (list .exit)) r ⌝ }
+    requires { ⌜ Ordered n (now listed) (now order) × Small class × (n ≤ length (now list)) ⌝ }
+    ensures { λ r. ⌜ Kept (inClass class (now (listed .entry))) n (now (order .entry)) (now (list .entry)) (now (list .exit)) r ⌝ }
 {
     // no samples: any slice does for them
-    let mut s = search_filter::inner::first_place(listed, slots, n, listed, 0, class);
+    let mut s = search_filter::inner::first_place(listed, order, n, listed, 0, class);
     let mut k: usize = 0;
     while s.at < n {
         let at = s.at;
-        list[k] = slots[at];
+        list[k] = order[at];
         k += 1;
-        s = search_filter::inner::next_from(listed, slots, n, listed, 0, class, s, at + 1);
+        s = search_filter::inner::next_from(listed, order, n, listed, 0, class, s, at + 1);
     }
     k
 }

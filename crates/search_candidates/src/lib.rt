@@ -13,16 +13,16 @@ pub enum CandidatesAnswer {
 // Lists the slots whose first word f has p × f = t modulo 2^w, in order-list order. Refuses 2, 4, 5, 7, 8.
 pub fn collect_mul_probe0_candidates(
     w: u32,
-    pairs: usize,
-    listed: &[u64],
-    slots: &[u32],
+    pair_count: usize,
+    pair_rows: &[u64],
+    order: &[u32],
     p: u64,
     t: u64,
-    list: &mut [u32],
+    candidates: &mut [u32],
 ) -> CandidatesAnswer
-    ensures { λ r. ⌜ Collected w pairs (now (listed .entry)) (now (slots .entry)) p t (now (list .entry)) (now (list .exit)) r ⌝ }
+    ensures { λ r. ⌜ Collected w «pair_count» (now («pair_rows» .entry)) (now (order .entry)) p t (now (candidates .entry)) (now (candidates .exit)) r ⌝ }
 {
-    let refusal = inner::candidates_refusal(w, pairs, listed, slots, p, t, list);
+    let refusal = inner::candidates_refusal(w, pair_count, pair_rows, order, p, t, candidates);
     if refusal != 0 {
         return CandidatesAnswer::Refused(refusal);
     }
@@ -37,6 +37,6 @@ pub fn collect_mul_probe0_candidates(
         return CandidatesAnswer::Used(0);
     };
     let class = search_filter::inner::Residue { w, bits, first };
-    let count = inner::collect(list, listed, slots, pairs, class);
+    let count = inner::collect(candidates, pair_rows, order, pair_count, class);
     CandidatesAnswer::Used(count as u32)
 }

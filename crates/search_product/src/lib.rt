@@ -18,20 +18,36 @@ pub enum ProductAnswer {
 // Finds the first product of two atoms, else of an atom and a listed pair, that is the target; in 01's order. Refuses 2, 4, 5, 7, 8.
 pub fn product_search(
     w: u32,
-    count: usize,
-    atoms: &[u64],
-    pairs: usize,
-    listed: &[u64],
-    slots: &[u32],
+    atom_count: usize,
+    atom_rows: &[u64],
+    pair_count: usize,
+    pair_rows: &[u64],
+    order: &[u32],
     target: [u64; 16],
 ) -> ProductAnswer
-    ensures { λ r. ⌜ productSays r ≡ product w count (now (atoms .entry)) pairs (now (listed .entry)) (now (slots .entry)) target ⌝ }
+    ensures { λ r. ⌜ productSays r ≡ product w «atom_count» (now («atom_rows» .entry)) «pair_count» (now («pair_rows» .entry)) (now (order .entry)) target ⌝ }
 {
-    let refusal = inner::search_refusal(w, count, atoms, pairs, listed, slots, target);
+    let refusal = inner::search_refusal(
+        w,
+        atom_count,
+        atom_rows,
+        pair_count,
+        pair_rows,
+        order,
+        target,
+    );
     if refusal != 0 {
         return ProductAnswer::Refused(refusal);
     }
-    match inner::search_rows(atoms, count, listed, slots, pairs, &target, w) {
+    match inner::search_rows(
+        atom_rows,
+        atom_count,
+        pair_rows,
+        order,
+        pair_count,
+        &target,
+        w,
+    ) {
         Found::Atoms(a, b) => ProductAnswer::Atoms(a, b),
         Found::AtomPair(a, s) => ProductAnswer::AtomPair(a, s),
         Found::Nothing => ProductAnswer::Nothing,

@@ -40,22 +40,22 @@ fn walk_run(
     atoms: &[u64],
     a: usize,
     listed: &[u64],
-    slots: &[u32],
+    order: &[u32],
     n: usize,
     at: usize,
     target: &[u64],
     w: u32,
 ) -> RunStop
-    requires { ⌜ Ordered n (now listed) (now slots) × (at < n) × (16 * a + 16 ≤ length (now atoms)) × Target w (now target) ⌝ }
-    ensures { λ r. ⌜ Stopped (fitsAt w (now (target .entry)) (now (atoms .entry)) a (now (listed .entry))) n (now (slots .entry)) at r ⌝ }
+    requires { ⌜ Ordered n (now listed) (now order) × (at < n) × (16 * a + 16 ≤ length (now atoms)) × Target w (now target) ⌝ }
+    ensures { λ r. ⌜ Stopped (fitsAt w (now (target .entry)) (now (atoms .entry)) a (now (listed .entry))) n (now (order .entry)) at r ⌝ }
 {
-    let first = slots[at] as usize;
+    let first = order[at] as usize;
     let word = listed[ROW_WORDS * first];
     let p = atoms[ROW_WORDS * a + 1];
     let t = target[1];
     let mut k = at;
     while k < n {
-        let slot = slots[k] as usize;
+        let slot = order[k] as usize;
         if listed[ROW_WORDS * slot] != word {
             return RunStop { at: k, fits: false };
         }
@@ -74,7 +74,7 @@ fn first_of_class(
     atoms: &[u64],
     a: usize,
     listed: &[u64],
-    slots: &[u32],
+    order: &[u32],
     n: usize,
     samples: &[u64],
     m: usize,
@@ -82,17 +82,17 @@ fn first_of_class(
     target: &[u64],
     w: u32,
 ) -> PairFit
-    requires { ⌜ Ordered n (now listed) (now slots) × Sampled n (now listed) (now slots) (now samples) m × Small class × Narrows w (now target) (now atoms) a (now listed) class × (16 * a + 16 ≤ length (now atoms)) × Target w (now target) ⌝ }
-    ensures { λ r. ⌜ pairSays r ≡ firstThat (fitsAt w (now (target .entry)) (now (atoms .entry)) a (now (listed .entry))) (take n (now (slots .entry))) ⌝ }
+    requires { ⌜ Ordered n (now listed) (now order) × Sampled n (now listed) (now order) (now samples) m × Small class × Narrows w (now target) (now atoms) a (now listed) class × (16 * a + 16 ≤ length (now atoms)) × Target w (now target) ⌝ }
+    ensures { λ r. ⌜ pairSays r ≡ firstThat (fitsAt w (now (target .entry)) (now (atoms .entry)) a (now (listed .entry))) (take n (now (order .entry))) ⌝ }
 {
-    let mut place = search_filter::inner::first_place(listed, slots, n, samples, m, class);
+    let mut place = search_filter::inner::first_place(listed, order, n, samples, m, class);
     while place.at < n {
-        let stop = walk_run(atoms, a, listed, slots, n, place.at, target, w);
+        let stop = walk_run(atoms, a, listed, order, n, place.at, target, w);
         let at = stop.at;
         if stop.fits {
-            return PairFit::At(PairSlot(slots[at]));
+            return PairFit::At(PairSlot(order[at]));
         }
-        place = search_filter::inner::next_from(listed, slots, n, samples, m, class, place, at);
+        place = search_filter::inner::next_from(listed, order, n, samples, m, class, place, at);
     }
     PairFit::Nothing
 }
@@ -129,14 +129,14 @@ fn first_pair(
     atoms: &[u64],
     a: usize,
     listed: &[u64],
-    slots: &[u32],
+    order: &[u32],
     n: usize,
     samples: &[u64],
     m: usize,
     target: &[u64],
     w: u32,
 ) -> PairFit
-    requires { ⌜ Ordered n (now listed) (now slots) × Sampled n (now listed) (now slots) (now samples) m × (16 * a + 16 ≤ length (now atoms)) × Target w (now target) ⌝ }
+    requires { ⌜ Ordered n (now listed) (now order) × Sampled n (now listed) (now order) (now samples) m × (16 * a + 16 ≤ length (now atoms)) × Target w (now target) ⌝ }
     ensures { λ r. ⌜ pairSays r ≡ firstThat (fitsAt w (now (target .entry)) (now (atoms .entry)) a (now (listed .entry))) (slotsFor w (firstWord (now (atoms .entry)) a) (getD (now (target .entry)) 0 0) n (now (listed .entry))) ⌝ }
 {
     let p = arith::reduce(atoms[ROW_WORDS * a], w);
@@ -146,7 +146,7 @@ fn first_pair(
         match solution {
             Solution::Class { bits, first } => {
                 let class = Residue { w, bits, first };
-                return first_of_class(atoms, a, listed, slots, n, samples, m, class, target, w);
+                return first_of_class(atoms, a, listed, order, n, samples, m, class, target, w);
             }
             Solution::Nothing => {
                 return PairFit::Nothing;
@@ -161,19 +161,19 @@ fn search_pairs(
     atoms: &[u64],
     count: usize,
     listed: &[u64],
-    slots: &[u32],
+    order: &[u32],
     n: usize,
     samples: &[u64],
     m: usize,
     target: &[u64],
     w: u32,
 ) -> Found
-    requires { ⌜ Lent w count (now atoms) n (now listed) (now slots) (now target) × Sampled n (now listed) (now slots) (now samples) m ⌝ }
+    requires { ⌜ Lent w count (now atoms) n (now listed) (now order) (now target) × Sampled n (now listed) (now order) (now samples) m ⌝ }
     ensures { λ r. ⌜ foundSays r ≡ firstThat (fitting w (now (atoms .entry)) (now (listed .entry)) (now (target .entry))) (withPairs w count (now (atoms .entry)) n (now (listed .entry)) (now (target .entry))) ⌝ }
 {
     let mut a: usize = 0;
     while a < count {
-        let fit = first_pair(atoms, a, listed, slots, n, samples, m, target, w);
+        let fit = first_pair(atoms, a, listed, order, n, samples, m, target, w);
         let slot = a as u32;
         a += 1;
         match fit {
@@ -191,17 +191,17 @@ fn sampled_pairs(
     atoms: &[u64],
     count: usize,
     listed: &[u64],
-    slots: &[u32],
+    order: &[u32],
     n: usize,
     target: &[u64],
     w: u32,
 ) -> Found
-    requires { ⌜ Lent w count (now atoms) n (now listed) (now slots) (now target) ⌝ }
+    requires { ⌜ Lent w count (now atoms) n (now listed) (now order) (now target) ⌝ }
     ensures { λ r. ⌜ foundSays r ≡ firstThat (fitting w (now (atoms .entry)) (now (listed .entry)) (now (target .entry))) (withPairs w count (now (atoms .entry)) n (now (listed .entry)) (now (target .entry))) ⌝ }
 {
     let mut samples: [u64; SAMPLES_MAX] = [0; SAMPLES_MAX];
-    let m = search_filter::inner::sample(&mut samples, listed, slots, n);
-    search_pairs(atoms, count, listed, slots, n, &samples, m, target, w)
+    let m = search_filter::inner::sample(&mut samples, listed, order, n);
+    search_pairs(atoms, count, listed, order, n, &samples, m, target, w)
 }
 
 // The second stage. Few pairs are searched with no samples.
@@ -209,17 +209,17 @@ pub fn atom_and_pair(
     atoms: &[u64],
     count: usize,
     listed: &[u64],
-    slots: &[u32],
+    order: &[u32],
     n: usize,
     target: &[u64],
     w: u32,
 ) -> Found
-    requires { ⌜ Lent w count (now atoms) n (now listed) (now slots) (now target) ⌝ }
+    requires { ⌜ Lent w count (now atoms) n (now listed) (now order) (now target) ⌝ }
     ensures { λ r. ⌜ foundSays r ≡ firstThat (fitting w (now (atoms .entry)) (now (listed .entry)) (now (target .entry))) (withPairs w count (now (atoms .entry)) n (now (listed .entry)) (now (target .entry))) ⌝ }
 {
     if n > UNSAMPLED_MAX {
-        return sampled_pairs(atoms, count, listed, slots, n, target, w);
+        return sampled_pairs(atoms, count, listed, order, n, target, w);
     }
     let none: [u64; 1] = [0; 1];
-    search_pairs(atoms, count, listed, slots, n, &none, 0, target, w)
+    search_pairs(atoms, count, listed, order, n, &none, 0, target, w)
 }

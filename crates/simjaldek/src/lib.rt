@@ -37,51 +37,73 @@ ghost use Rattle.simjaldek.specs.Beside.{Indexed, Listed, BankReplied, T
 #[no_mangle]
 pub extern "C" fn simjaldek_product_search(
     w: u32,
-    count: usize,
-    atoms: &[u64],
-    pairs: usize,
-    listed: &[u64],
-    slots: &[u32],
+    atom_count: usize,
+    atom_rows: &[u64],
+    pair_count: usize,
+    pair_rows: &[u64],
+    order: &[u32],
     target: &[u64],
 ) -> Reply
-    ensures { λ r. ⌜ r ≡ productReply (orElse (rowRefusal w (now (target .entry))) (product w count (now (atoms .entry)) pairs (now (listed .entry)) (now (slots .entry)) (rowIn (now (target .entry))))) ⌝ }
+    ensures { λ r. ⌜ r ≡ productReply (orElse (rowRefusal w (now (target .entry))) (product w «atom_count» (now («atom_rows» .entry)) «pair_count» (now («pair_rows» .entry)) (now (order .entry)) (rowIn (now (target .entry))))) ⌝ }
 {
     let refusal = slices::row_refusal(w, target);
     if refusal != 0 {
         return replies::refused(refusal);
     }
     let row = row_lent::inner::load_row(target, 0);
-    replies::of_product(search_product::product_search(w, count, atoms, pairs, listed, slots, row))
+    replies::of_product(search_product::product_search(
+        w,
+        atom_count,
+        atom_rows,
+        pair_count,
+        pair_rows,
+        order,
+        row,
+    ))
 }
 
 // `bank_lookup::find_row`: kind 1 the slot a, 0 none. Refuses 2, 4, 5, 7.
 #[no_mangle]
-pub extern "C" fn simjaldek_find_row(w: u32, count: usize, rows: &[u64], row: &[u64]) -> Reply
-    ensures { λ r. ⌜ r ≡ optionReply (orElse (rowRefusal w (now (row .entry))) (found w count (now (rows .entry)) (rowIn (now (row .entry))))) ⌝ }
+pub extern "C" fn simjaldek_find_row(
+    w: u32,
+    atom_count: usize,
+    atom_rows: &[u64],
+    row: &[u64],
+) -> Reply
+    ensures { λ r. ⌜ r ≡ optionReply (orElse (rowRefusal w (now (row .entry))) (found w «atom_count» (now («atom_rows» .entry)) (rowIn (now (row .entry))))) ⌝ }
 {
     let refusal = slices::row_refusal(w, row);
     if refusal != 0 {
         return replies::refused(refusal);
     }
     let asked = row_lent::inner::load_row(row, 0);
-    replies::of_slot(bank_lookup::find_row(w, count, rows, asked))
+    replies::of_slot(bank_lookup::find_row(w, atom_count, atom_rows, asked))
 }
 
 // `index::build_index`: a pairs, and b 1 where the build was cut. Refuses 2, 3, 4, 7.
 #[no_mangle]
 pub extern "C" fn simjaldek_build_index(
     w: u32,
-    count: usize,
-    rows: &[u64],
+    atom_count: usize,
+    atom_rows: &[u64],
     limit: usize,
     pairs: &mut [u32],
-    listed: &mut [u64],
-    slots: &mut [u32],
+    pair_rows: &mut [u64],
+    order: &mut [u32],
     work: &mut [u32],
 ) -> Reply
-    ensures { λ r. ⌜ Indexed w count (now (rows .entry)) limit (arraysOf (now (pairs .entry)) (now (listed .entry)) (now (slots .entry)) (now (work .entry))) (arraysOf (now (pairs .exit)) (now (listed .exit)) (now (slots .exit)) (now (work .exit))) r ⌝ }
+    ensures { λ r. ⌜ Indexed w «atom_count» (now («atom_rows» .entry)) limit (arraysOf (now (pairs .entry)) (now («pair_rows» .entry)) (now (order .entry)) (now (work .entry))) (arraysOf (now (pairs .exit)) (now («pair_rows» .exit)) (now (order .exit)) (now (work .exit))) r ⌝ }
 {
-    let built = index::build_index(w, count, rows, limit, pairs, listed, slots, work);
+    let built = index::build_index(
+        w,
+        atom_count,
+        atom_rows,
+        limit,
+        pairs,
+        pair_rows,
+        order,
+        work,
+    );
     replies::of_index(built)
 }
 
@@ -89,23 +111,23 @@ pub extern "C" fn simjaldek_build_index(
 #[no_mangle]
 pub extern "C" fn simjaldek_collect_mul_probe0_candidates(
     w: u32,
-    pairs: usize,
-    listed: &[u64],
-    slots: &[u32],
+    pair_count: usize,
+    pair_rows: &[u64],
+    order: &[u32],
     p: u64,
     t: u64,
-    list: &mut [u32],
+    candidates: &mut [u32],
 ) -> Reply
-    ensures { λ r. ⌜ Listed w pairs (now (listed .entry)) (now (slots .entry)) p t (now (list .entry)) (now (list .exit)) r ⌝ }
+    ensures { λ r. ⌜ Listed w «pair_count» (now («pair_rows» .entry)) (now (order .entry)) p t (now (candidates .entry)) (now (candidates .exit)) r ⌝ }
 {
     let collected = search_candidates::collect_mul_probe0_candidates(
         w,
-        pairs,
-        listed,
-        slots,
+        pair_count,
+        pair_rows,
+        order,
         p,
         t,
-        list,
+        candidates,
     );
     replies::of_candidates(collected)
 }
@@ -113,18 +135,18 @@ pub extern "C" fn simjaldek_collect_mul_probe0_candidates(
 // `bank::build_bank`, with sixteen points of six words each: a atoms. Refuses 1, 2, 4, 5.
 #[no_mangle]
 pub extern "C" fn simjaldek_build_bank(
-    lengths: &mut [u32],
-    ops: &mut [u8],
-    operands: &mut [u64],
-    costs: &mut [u32],
-    rows: &mut [u64],
+    atom_lengths: &mut [u32],
+    atom_ops: &mut [u8],
+    atom_operands: &mut [u64],
+    atom_costs: &mut [u32],
+    atom_rows: &mut [u64],
     work: &mut [u32],
     nv: u32,
     w: u32,
     points: &[u64],
     target: &[u64],
 ) -> Reply
-    ensures { λ r. ⌜ BankReplied nv w (now (points .entry)) (now (target .entry)) (arrays (now (lengths .entry)) (now (ops .entry)) (now (operands .entry)) (now (costs .entry)) (now (rows .entry))) (arrays (now (lengths .exit)) (now (ops .exit)) (now (operands .exit)) (now (costs .exit)) (now (rows .exit))) (now (work .entry)) (now (work .exit)) r ⌝ }
+    ensures { λ r. ⌜ BankReplied nv w (now (points .entry)) (now (target .entry)) (arrays (now («atom_lengths» .entry)) (now («atom_ops» .entry)) (now («atom_operands» .entry)) (now («atom_costs» .entry)) (now («atom_rows» .entry))) (arrays (now («atom_lengths» .exit)) (now («atom_ops» .exit)) (now («atom_operands» .exit)) (now («atom_costs» .exit)) (now («atom_rows» .exit))) (now (work .entry)) (now (work .exit)) r ⌝ }
 {
     let refusal = slices::points_row_refusal(nv, w, points, target);
     if refusal != 0 {
@@ -132,7 +154,18 @@ pub extern "C" fn simjaldek_build_bank(
     }
     let at = slices::points_of(points);
     let row = row_lent::inner::load_row(target, 0);
-    let built = bank::build_bank(lengths, ops, operands, costs, rows, work, nv, w, at, row);
+    let built = bank::build_bank(
+        atom_lengths,
+        atom_ops,
+        atom_operands,
+        atom_costs,
+        atom_rows,
+        work,
+        nv,
+        w,
+        at,
+        row,
+    );
     replies::of_bank(built)
 }
 
@@ -146,10 +179,15 @@ pub extern "C" fn simjaldek_token_at(ops: &[u8], operands: &[u64], at: usize) ->
 
 // `expr::is_formula`: 1 where it is one, else 0.
 #[no_mangle]
-pub extern "C" fn simjaldek_is_formula(nv: u32, count: usize, ops: &[u8], operands: &[u64]) -> u32
-    ensures { λ r. ⌜ r ≡ markOf (isFormula nv (tokens count (now (ops .entry)) (now (operands .entry)))) ⌝ }
+pub extern "C" fn simjaldek_is_formula(
+    nv: u32,
+    token_count: usize,
+    ops: &[u8],
+    operands: &[u64],
+) -> u32
+    ensures { λ r. ⌜ r ≡ markOf (isFormula nv (tokens «token_count» (now (ops .entry)) (now (operands .entry)))) ⌝ }
 {
-    replies::mark_of(expr::is_formula(nv, count, ops, operands))
+    replies::mark_of(expr::is_formula(nv, token_count, ops, operands))
 }
 
 // `expr_eval::eval`. Refuses 1, 2, 4, 6.
@@ -157,27 +195,27 @@ pub extern "C" fn simjaldek_is_formula(nv: u32, count: usize, ops: &[u8], operan
 pub extern "C" fn simjaldek_eval(
     nv: u32,
     w: u32,
-    count: usize,
+    token_count: usize,
     ops: &[u8],
     operands: &[u64],
     words: &[u64],
 ) -> WordReply
-    ensures { λ r. ⌜ r ≡ wordReply (evaluated nv w count (now (ops .entry)) (now (operands .entry)) (now (words .entry))) ⌝ }
+    ensures { λ r. ⌜ r ≡ wordReply (evaluated nv w «token_count» (now (ops .entry)) (now (operands .entry)) (now (words .entry))) ⌝ }
 {
-    replies::of_value(expr_eval::eval(nv, w, count, ops, operands, words))
+    replies::of_value(expr_eval::eval(nv, w, token_count, ops, operands, words))
 }
 
 // `expr_cost::compute_cost`. Refuses 1, 4, 6.
 #[no_mangle]
 pub extern "C" fn simjaldek_compute_cost(
     nv: u32,
-    count: usize,
+    token_count: usize,
     ops: &[u8],
     operands: &[u64],
 ) -> CostReply
-    ensures { λ r. ⌜ r ≡ costReply (costed nv count (now (ops .entry)) (now (operands .entry))) ⌝ }
+    ensures { λ r. ⌜ r ≡ costReply (costed nv «token_count» (now (ops .entry)) (now (operands .entry))) ⌝ }
 {
-    let x = expr_cost::compute_cost(nv, count, ops, operands);
+    let x = expr_cost::compute_cost(nv, token_count, ops, operands);
     CostReply {
         refusal: x.refusal,
         size: x.cost.size,
@@ -206,18 +244,18 @@ pub extern "C" fn simjaldek_probe(
     nv: u32,
     w: u32,
     points: &[u64],
-    count: usize,
+    token_count: usize,
     ops: &[u8],
     operands: &[u64],
 ) -> RowReply
-    ensures { λ r. ⌜ r ≡ rowOrElse (pointsRefusal nv w (now (points .entry))) (probed nv w (pointsIn (now (points .entry))) count (now (ops .entry)) (now (operands .entry))) ⌝ }
+    ensures { λ r. ⌜ r ≡ rowOrElse (pointsRefusal nv w (now (points .entry))) (probed nv w (pointsIn (now (points .entry))) «token_count» (now (ops .entry)) (now (operands .entry))) ⌝ }
 {
     let refusal = slices::points_refusal(nv, w, points);
     if refusal != 0 {
         return replies::refused_row(refusal);
     }
     let at = slices::points_of(points);
-    replies::of_row(probe::probe(nv, w, at, count, ops, operands))
+    replies::of_row(probe::probe(nv, w, at, token_count, ops, operands))
 }
 
 // `row_fingerprint::fingerprint`. Refuses 4.
@@ -386,16 +424,16 @@ pub extern "C" fn simjaldek_gate_matches(
 
 // Where `bank_lookup::atom_row` begins: the place in words of the first of the slot's sixteen. Refuses 4, 7.
 #[no_mangle]
-pub extern "C" fn simjaldek_atom_row(rows: &[u64], count: usize, slot: u32) -> Reply
-    ensures { λ r. ⌜ r ≡ numberReply (outcome (handRefusal count (now (rows .entry)) slot) (16 * slot)) ⌝ }
+pub extern "C" fn simjaldek_atom_row(atom_rows: &[u64], atom_count: usize, slot: u32) -> Reply
+    ensures { λ r. ⌜ r ≡ numberReply (outcome (handRefusal «atom_count» (now («atom_rows» .entry)) slot) (16 * slot)) ⌝ }
 {
-    if rows.len() / row_gates::ROW_WORDS < count {
+    if atom_rows.len() / row_gates::ROW_WORDS < atom_count {
         return replies::refused(4);
     }
-    if limits::ATOMS_MAX < count {
+    if limits::ATOMS_MAX < atom_count {
         return replies::refused(7);
     }
-    if count <= slot as usize {
+    if atom_count <= slot as usize {
         return replies::refused(7);
     }
     replies::answer(0, 16 * slot, 0)

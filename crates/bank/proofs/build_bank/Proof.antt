@@ -13,20 +13,20 @@ bank-refusal-requires c κs = search needs
 returns : tie.Need-returns
 returns c =
     let s = c .before .before .before .before .before .before .before .before .args in
-    let old = arrays (s .lengths .now) (s .ops .now) (s .operands .now) (s .costs .now) (s .rows .now) in
+    let old = arrays (s .atom-lengths .now) (s .atom-ops .now) (s .atom-operands .now) (s .atom-costs .now) (s .atom-rows .now) in
     built-refused (s .nv) (s .w) (s .points) (s .target) old (s .work .now) _ (c .before .bank-refusal .ensures) (c .if1 .taken)
 
 build-requires : tie.Need-build-requires
 build-requires c κs =
     let s = c .before .before .before .before .before .before .before .before .before .before .before .before .before .before .args in
-    let old = arrays (s .lengths .now) (s .ops .now) (s .operands .now) (s .costs .now) (s .rows .now) in
+    let old = arrays (s .atom-lengths .now) (s .atom-ops .now) (s .atom-operands .now) (s .atom-costs .now) (s .atom-rows .now) in
     let e = sym (c .before .before .before .before .before .before .before .bank-refusal .ensures) ∙ c .before .before .before .before .before .before .if1 .left in
     (build-asked (s .nv) (s .w) (s .points) (s .target) old (s .work .now) e, build-fits (s .nv) (s .w) (s .points) (s .target) old (s .work .now) e)
 
 cast-t33 : tie.Need-cast-t33
 cast-t33 c =
     let s = c .before .before .before .before .before .before .before .before .before .before .before .before .before .before .before .before .before .before .before .before .before .before .before .before .before .before .before .args in
-    let old = arrays (s .lengths .now) (s .ops .now) (s .operands .now) (s .costs .now) (s .rows .now) in
+    let old = arrays (s .atom-lengths .now) (s .atom-ops .now) (s .atom-operands .now) (s .atom-costs .now) (s .atom-rows .now) in
     let e = sym (c .before .before .before .before .before .before .before .before .before .before .before .before .before .before .before .before .before .before .before .before .bank-refusal .ensures) ∙ c .before .before .before .before .before .before .before .before .before .before .before .before .before .before .before .before .before .before .before .if1 .left in
     omega (arith, built-few (s .nv) (s .w) (s .points) (s .target) old (s .work .now) _ _ _ (build-asked (s .nv) (s .w) (s .points) (s .target) old (s .work .now) e) (c .before .before .before .before .before .before .before .before .before .before .before .before .build .ensures))
 
@@ -51,7 +51,7 @@ same-length-6 c = search needs
 returns-2 : tie.Need-returns-2
 returns-2 c =
     let s = c .before .before .before .before .before .before .before .before .before .before .before .before .before .before .before .before .before .before .before .before .before .before .before .before .before .before .before .args in
-    let old = arrays (s .lengths .now) (s .ops .now) (s .operands .now) (s .costs .now) (s .rows .now) in
+    let old = arrays (s .atom-lengths .now) (s .atom-ops .now) (s .atom-operands .now) (s .atom-costs .now) (s .atom-rows .now) in
     let e = sym (c .before .before .before .before .before .before .before .before .before .before .before .before .before .before .before .before .before .before .before .before .bank-refusal .ensures) ∙ c .before .before .before .before .before .before .before .before .before .before .before .before .before .before .before .before .before .before .before .if1 .left in
     built-built (s .nv) (s .w) (s .points) (s .target) old (s .work .now) _ _ _ e (c .before .before .before .before .before .before .before .before .before .before .before .before .build .ensures)
 

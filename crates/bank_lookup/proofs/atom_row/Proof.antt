@@ -28,7 +28,7 @@ returns : tie.Need-returns
 returns c =
     let e1 = c .before in
     let a = e1 .before .before .args in
-    ap (λ (n : ℕ). unlessRefused n (partAt 16 (a .rows .now) (a .slot .0)) []) (sym (refused-here 4 _ (lt-ltb _ _ (e1 .if1 .taken))))
+    ap (λ (n : ℕ). unlessRefused n (partAt 16 (a .atom-rows .now) (a .slot .0)) []) (sym (refused-here 4 _ (lt-ltb _ _ (e1 .if1 .taken))))
 
 sub-result-2 : tie.Need-sub-result-2
 sub-result-2 c = search needs
@@ -44,7 +44,7 @@ returns-2 c =
     let e2 = c .before in
     let e1 = e2 .before in
     let a = e1 .before .before .args in
-    ap (λ (n : ℕ). unlessRefused n (partAt 16 (a .rows .now) (a .slot .0)) [])
+    ap (λ (n : ℕ). unlessRefused n (partAt 16 (a .atom-rows .now) (a .slot .0)) [])
     (sym (refused-later 4 (le-ltb _ _ (e1 .if1 .left)) (refused-here 7 0 (or-here _ (lt-ltb _ _ (e2 .if2 .taken))))))
 
 sub-result-3 : tie.Need-sub-result-3
@@ -62,7 +62,7 @@ returns-3 c =
     let e2 = e3 .before in
     let e1 = e2 .before in
     let a = e1 .before .before .args in
-    ap (λ (n : ℕ). unlessRefused n (partAt 16 (a .rows .now) (a .slot .0)) [])
+    ap (λ (n : ℕ). unlessRefused n (partAt 16 (a .atom-rows .now) (a .slot .0)) [])
     (sym (refused-later 4 (le-ltb _ _ (e1 .if1 .left)) (refused-here 7 0 (or-later (le-ltb _ _ (e2 .if2 .left)) (le-leb _ _ (e3 .if3 .taken))))))
 
 mul-from : tie.Need-mul-from
@@ -91,8 +91,8 @@ returns-4 c =
     let e1 = e2 .before in
     let a = e1 .before .before .args in
     let sixteen : 16 * a .slot .0 + 16 - 16 * a .slot .0 ≡ 16 = omega arith in
-    ap (λ (n : ℕ). take n (drop (16 * a .slot .0) (a .rows .now))) sixteen
-    ∙ ap (λ (n : ℕ). unlessRefused n (take 16 (drop (16 * a .slot .0) (a .rows .now))) [])
+    ap (λ (n : ℕ). take n (drop (16 * a .slot .0) (a .atom-rows .now))) sixteen
+    ∙ ap (λ (n : ℕ). unlessRefused n (take 16 (drop (16 * a .slot .0) (a .atom-rows .now))) [])
     (sym (refused-later 4 (le-ltb _ _ (e1 .if1 .left)) (refused-later 7 (or-later (le-ltb _ _ (e2 .if2 .left)) (lt-leb _ _ (e3 .if3 .left))) refl)))
 
 pub atom-row-spec : {M : Type 1} → statement M

@@ -16,14 +16,14 @@ returns : tie.Need-returns
 returns c =
     let e1 = c in
     let a = e1 .before .before .before .args in
-    ap (λ (n : ℕ). outcome n (leastFrom (a .rows .now) (a .row) 0 (a .count))) (sym (refused-here 2 _ (sym (e1 .before .bad-width .ensures) ∙ e1 .if1 .taken)))
+    ap (λ (n : ℕ). outcome n (leastFrom (a .atom-rows .now) (a .row) 0 (a .atom-count))) (sym (refused-here 2 _ (sym (e1 .before .bad-width .ensures) ∙ e1 .if1 .taken)))
 
 returns-2 : tie.Need-returns-2
 returns-2 c =
     let e2 = c in
     let e1 = e2 .before in
     let a = e1 .before .before .before .args in
-    ap (λ (n : ℕ). outcome n (leastFrom (a .rows .now) (a .row) 0 (a .count)))
+    ap (λ (n : ℕ). outcome n (leastFrom (a .atom-rows .now) (a .row) 0 (a .atom-count)))
     (sym
     (refused-later 2 (sym (e1 .before .bad-width .ensures) ∙ e1 .if1 .left)
     (refused-here 4 _ (lt-ltb _ _ (e2 .if2 .taken)))))
@@ -39,7 +39,7 @@ returns-3 c =
     let e2 = e3 .before .before in
     let e1 = e2 .before in
     let a = e1 .before .before .before .args in
-    ap (λ (n : ℕ). outcome n (leastFrom (a .rows .now) (a .row) 0 (a .count)))
+    ap (λ (n : ℕ). outcome n (leastFrom (a .atom-rows .now) (a .row) 0 (a .atom-count)))
     (sym
     (refused-later 2 (sym (e1 .before .bad-width .ensures) ∙ e1 .if1 .left)
     (refused-later 4 (le-ltb _ _ (e2 .if2 .left))
@@ -52,7 +52,7 @@ returns-4 c =
     let e2 = e3 .before .before in
     let e1 = e2 .before in
     let a = e1 .before .before .before .args in
-    ap (λ (n : ℕ). outcome n (leastFrom (a .rows .now) (a .row) 0 (a .count)))
+    ap (λ (n : ℕ). outcome n (leastFrom (a .atom-rows .now) (a .row) 0 (a .atom-count)))
     (sym
     (refused-later 2 (sym (e1 .before .bad-width .ensures) ∙ e1 .if1 .left)
     (refused-later 4 (le-ltb _ _ (e2 .if2 .left))
@@ -70,7 +70,7 @@ returns-5 c =
     let e1 = e2 .before in
     let a = e1 .before .before .before .args in
     c .least-slot .ensures
-    ∙ ap (λ (n : ℕ). outcome n (leastFrom (a .rows .now) (a .row) 0 (a .count)))
+    ∙ ap (λ (n : ℕ). outcome n (leastFrom (a .atom-rows .now) (a .row) 0 (a .atom-count)))
     (sym
     (refused-later 2 (sym (e1 .before .bad-width .ensures) ∙ e1 .if1 .left)
     (refused-later 4 (le-ltb _ _ (e2 .if2 .left))

@@ -7,22 +7,22 @@ use Rattle.compare_lines.proofs.zero_order.Statement.{statement}
 use Rattle.compare_lines.proofs.zero_order.Tie as tie
 
 abbrev Inv-loop : tie.InvT-loop
-Inv-loop swap slots₀ i₀ slots i = (i ≤ 8000) × (length slots ≡ 8000)
+Inv-loop swap order₀ i₀ order i = (i ≤ 8000) × (length order ≡ 8000)
 
 abbrev μ-loop : tie.MeasureT-loop
-μ-loop swap slots₀ i₀ slots i = 8000 - i
+μ-loop swap order₀ i₀ order i = 8000 - i
 
 loop-holds : tie.Need-loop-holds Inv-loop μ-loop
 loop-holds c = search needs
 
-cast-slots : tie.Need-cast-slots Inv-loop μ-loop
-cast-slots c = search needs
+cast-order : tie.Need-cast-order Inv-loop μ-loop
+cast-order c = search needs
 
-mul-slots : tie.Need-mul-slots Inv-loop μ-loop
-mul-slots c = search needs
+mul-order : tie.Need-mul-order Inv-loop μ-loop
+mul-order c = search needs
 
-array-write-slots : tie.Need-array-write-slots Inv-loop μ-loop
-array-write-slots c = search needs
+array-write-order : tie.Need-array-write-order Inv-loop μ-loop
+array-write-order c = search needs
 
 add-i : tie.Need-add-i Inv-loop μ-loop
 add-i c = search needs
@@ -33,11 +33,11 @@ loop-less c = search needs
 loop-again : tie.Need-loop-again Inv-loop μ-loop
 loop-again c = search needs
 
-array-write-slots-2 : tie.Need-array-write-slots-2 Inv-loop μ-loop
-array-write-slots-2 c = search needs
+array-write-order-2 : tie.Need-array-write-order-2 Inv-loop μ-loop
+array-write-order-2 c = search needs
 
-array-write-slots-3 : tie.Need-array-write-slots-3 Inv-loop μ-loop
-array-write-slots-3 c = search needs
+array-write-order-3 : tie.Need-array-write-order-3 Inv-loop μ-loop
+array-write-order-3 c = search needs
 
 returns : tie.Need-returns Inv-loop μ-loop
 returns c = search needs
@@ -52,13 +52,13 @@ zero-order-spec =
     Inv-loop
     μ-loop
     loop-holds
-    cast-slots
-    mul-slots
-    array-write-slots
+    cast-order
+    mul-order
+    array-write-order
     add-i
     loop-less
     loop-again
-    array-write-slots-2
-    array-write-slots-3
+    array-write-order-2
+    array-write-order-3
     returns
     returns-2)

@@ -16,17 +16,17 @@ abbrev μ-loop : tie.MeasureT-loop
 returns : tie.Need-returns Inv-loop μ-loop
 returns c =
     let s = c .before .before .before .args in
-    test-few (s .nv) (s .count) (s .ops .now) (s .operands .now) (c .if1 .taken)
+    test-few (s .nv) (s .token-count) (s .ops .now) (s .operands .now) (c .if1 .taken)
 
 returns-2 : tie.Need-returns-2 Inv-loop μ-loop
 returns-2 c =
     let s = c .before .before .before .before .args in
-    test-many (s .nv) (s .count) (s .ops .now) (s .operands .now) (c .if2 .taken)
+    test-many (s .nv) (s .token-count) (s .ops .now) (s .operands .now) (c .if2 .taken)
 
 loop-holds : tie.Need-loop-holds Inv-loop μ-loop
 loop-holds c =
     let s = c .before .before .before .before .args in
-    test-start (s .nv) (s .count) (s .ops .now) (s .operands .now) (c .before .if1 .left) (c .if2 .left)
+    test-start (s .nv) (s .token-count) (s .ops .now) (s .operands .now) (c .before .if1 .left) (c .if2 .left)
 
 token-at-requires : tie.Need-token-at-requires Inv-loop μ-loop
 token-at-requires c κs = search needs
@@ -41,7 +41,7 @@ returns-3 : tie.Need-returns-3 Inv-loop μ-loop
 returns-3 c =
     let s = c .before .before .before .before .before .before .before .before .before .args in
     let l = c .before .before .before .before .loop in
-    test-unknown (s .nv) (s .count) (s .ops .now) (s .operands .now) (l .depth) (l .i) (l .inv) (search needs) (c .before .before .token-at .result) (sym (c .before .before .token-at .ensures)) (sym (c .before .is-known .ensures) ∙ not-true _ (c .if3 .taken))
+    test-unknown (s .nv) (s .token-count) (s .ops .now) (s .operands .now) (l .depth) (l .i) (l .inv) (search needs) (c .before .before .token-at .result) (sym (c .before .before .token-at .ensures)) (sym (c .before .is-known .ensures) ∙ not-true _ (c .if3 .taken))
 
 takes-requires : tie.Need-takes-requires Inv-loop μ-loop
 takes-requires c κs = search needs
@@ -50,7 +50,7 @@ returns-4 : tie.Need-returns-4 Inv-loop μ-loop
 returns-4 c =
     let s = c .before .before .before .before .before .before .before .before .before .before .before .args in
     let l = c .before .before .before .before .before .before .loop in
-    test-low (s .nv) (s .count) (s .ops .now) (s .operands .now) (l .depth) (l .i) (l .inv) (search needs) (c .before .before .before .before .token-at .result) (sym (c .before .before .before .before .token-at .ensures)) (subst (λ (x : ℕ). l .depth < x) (c .before .takes .ensures) (c .if4 .taken))
+    test-low (s .nv) (s .token-count) (s .ops .now) (s .operands .now) (l .depth) (l .i) (l .inv) (search needs) (c .before .before .before .before .token-at .result) (sym (c .before .before .before .before .token-at .ensures)) (subst (λ (x : ℕ). l .depth < x) (c .before .takes .ensures) (c .if4 .taken))
 
 add-depth : tie.Need-add-depth Inv-loop μ-loop
 add-depth c = search needs
@@ -62,14 +62,14 @@ loop-again : tie.Need-loop-again Inv-loop μ-loop
 loop-again c =
     let s = c .before .before .before .before .before .before .before .before .before .before .before .args in
     let l = c .before .before .before .before .before .before .loop in
-    subst (λ (x : ℕ). Testing (s .nv) (s .count) (s .ops .now) (s .operands .now) (l .depth - x + 1) (l .i + 1)) (sym (c .before .takes .ensures))
-    (test-next (s .nv) (s .count) (s .ops .now) (s .operands .now) (l .depth) (l .i) (l .inv) (search needs) (c .before .before .before .before .token-at .result) (sym (c .before .before .before .before .token-at .ensures)) (sym (c .before .before .before .is-known .ensures) ∙ not-false _ (c .before .before .if3 .left)) (subst (λ (x : ℕ). x ≤ l .depth) (c .before .takes .ensures) (c .if4 .left)))
+    subst (λ (x : ℕ). Testing (s .nv) (s .token-count) (s .ops .now) (s .operands .now) (l .depth - x + 1) (l .i + 1)) (sym (c .before .takes .ensures))
+    (test-next (s .nv) (s .token-count) (s .ops .now) (s .operands .now) (l .depth) (l .i) (l .inv) (search needs) (c .before .before .before .before .token-at .result) (sym (c .before .before .before .before .token-at .ensures)) (sym (c .before .before .before .is-known .ensures) ∙ not-false _ (c .before .before .if3 .left)) (subst (λ (x : ℕ). x ≤ l .depth) (c .before .takes .ensures) (c .if4 .left)))
 
 returns-5 : tie.Need-returns-5 Inv-loop μ-loop
 returns-5 c =
     let s = c .before .before .before .before .before .before .args in
     let l = c .before .loop in
-    test-end (s .nv) (s .count) (s .ops .now) (s .operands .now) (l .depth) (l .i) (l .inv) (search needs)
+    test-end (s .nv) (s .token-count) (s .ops .now) (s .operands .now) (l .depth) (l .i) (l .inv) (search needs)
 
 pub is-formula-spec : {M : Type 1} → statement M
 is-formula-spec =

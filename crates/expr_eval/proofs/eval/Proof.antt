@@ -21,7 +21,7 @@ returns : tie.Need-returns
 returns c =
     let s = c .before .before .before .before .before .args in
     let e1 = sym (c .if1 .taken) ∙ c .before .bad-count .ensures in
-    λ i. outcome (refuse (e1 i) 1 (refuse (badWidth (s .w)) 2 (refuse (tooShort (s .count) (s .ops .now) (s .operands .now) || ltb (length (s .words .now)) (s .nv)) 4 (refuse (notFormula (s .nv) (s .count) (s .ops .now) (s .operands .now)) 6 0)))) (valueOf (s .w) (s .words .now) (tokens (s .count) (s .ops .now) (s .operands .now)))
+    λ i. outcome (refuse (e1 i) 1 (refuse (badWidth (s .w)) 2 (refuse (tooShort (s .token-count) (s .ops .now) (s .operands .now) || ltb (length (s .words .now)) (s .nv)) 4 (refuse (notFormula (s .nv) (s .token-count) (s .ops .now) (s .operands .now)) 6 0)))) (valueOf (s .w) (s .words .now) (tokens (s .token-count) (s .ops .now) (s .operands .now)))
 
 bad-width-requires : tie.Need-bad-width-requires
 bad-width-requires c κs = search needs
@@ -31,7 +31,7 @@ returns-2 c =
     let s = c .before .before .before .before .before .before .before .args in
     let e1 = sym (c .before .before .if1 .left) ∙ c .before .before .before .bad-count .ensures in
     let e2 = sym (c .if2 .taken) ∙ c .before .bad-width .ensures in
-    λ i. outcome (refuse (e1 i) 1 (refuse (e2 i) 2 (refuse (tooShort (s .count) (s .ops .now) (s .operands .now) || ltb (length (s .words .now)) (s .nv)) 4 (refuse (notFormula (s .nv) (s .count) (s .ops .now) (s .operands .now)) 6 0)))) (valueOf (s .w) (s .words .now) (tokens (s .count) (s .ops .now) (s .operands .now)))
+    λ i. outcome (refuse (e1 i) 1 (refuse (e2 i) 2 (refuse (tooShort (s .token-count) (s .ops .now) (s .operands .now) || ltb (length (s .words .now)) (s .nv)) 4 (refuse (notFormula (s .nv) (s .token-count) (s .ops .now) (s .operands .now)) 6 0)))) (valueOf (s .w) (s .words .now) (tokens (s .token-count) (s .ops .now) (s .operands .now)))
 
 too-short-requires : tie.Need-too-short-requires
 too-short-requires c κs = search needs
@@ -42,7 +42,7 @@ returns-3 c =
     let e1 = sym (c .before .before .before .before .if1 .left) ∙ c .before .before .before .before .before .bad-count .ensures in
     let e2 = sym (c .before .before .if2 .left) ∙ c .before .before .before .bad-width .ensures in
     let e3 = sym (c .if3 .taken) ∙ c .before .too-short .ensures in
-    λ i. outcome (refuse (e1 i) 1 (refuse (e2 i) 2 (refuse (e3 i || ltb (length (s .words .now)) (s .nv)) 4 (refuse (notFormula (s .nv) (s .count) (s .ops .now) (s .operands .now)) 6 0)))) (valueOf (s .w) (s .words .now) (tokens (s .count) (s .ops .now) (s .operands .now)))
+    λ i. outcome (refuse (e1 i) 1 (refuse (e2 i) 2 (refuse (e3 i || ltb (length (s .words .now)) (s .nv)) 4 (refuse (notFormula (s .nv) (s .token-count) (s .ops .now) (s .operands .now)) 6 0)))) (valueOf (s .w) (s .words .now) (tokens (s .token-count) (s .ops .now) (s .operands .now)))
 
 returns-4 : tie.Need-returns-4
 returns-4 c =
@@ -51,7 +51,7 @@ returns-4 c =
     let e2 = sym (c .before .before .before .if2 .left) ∙ c .before .before .before .before .bad-width .ensures in
     let e3 = sym (c .before .if3 .left) ∙ c .before .before .too-short .ensures in
     let e4 = sym (lt-ltb (length (s .words .now)) (s .nv) (c .if4 .taken)) in
-    λ i. outcome (refuse (e1 i) 1 (refuse (e2 i) 2 (refuse (e3 i || e4 i) 4 (refuse (notFormula (s .nv) (s .count) (s .ops .now) (s .operands .now)) 6 0)))) (valueOf (s .w) (s .words .now) (tokens (s .count) (s .ops .now) (s .operands .now)))
+    λ i. outcome (refuse (e1 i) 1 (refuse (e2 i) 2 (refuse (e3 i || e4 i) 4 (refuse (notFormula (s .nv) (s .token-count) (s .ops .now) (s .operands .now)) 6 0)))) (valueOf (s .w) (s .words .now) (tokens (s .token-count) (s .ops .now) (s .operands .now)))
 
 is-formula-requires : tie.Need-is-formula-requires
 is-formula-requires c κs = search needs
@@ -61,7 +61,7 @@ eval-tokens-requires c κs =
     let s = c .before .before .before .before .before .before .before .before .before .before .before .before .args in
     record {
       width = within 1 64 (s .w) (sym (c .before .before .before .before .before .before .bad-width .ensures) ∙ c .before .before .before .before .before .if2 .left) .most;
-      formula = formula-more (s .nv) (length (s .words .now)) (c .before .before .if4 .left) (tokens (s .count) (s .ops .now) (s .operands .now)) (sym (c .before .is-formula .ensures) ∙ c .if5 .taken);
+      formula = formula-more (s .nv) (length (s .words .now)) (c .before .before .if4 .left) (tokens (s .token-count) (s .ops .now) (s .operands .now)) (sym (c .before .is-formula .ensures) ∙ c .if5 .taken);
     }
 
 returns-5 : tie.Need-returns-5
@@ -83,7 +83,7 @@ returns-6 c =
     let e3 = sym (c .before .before .before .if3 .left) ∙ c .before .before .before .before .too-short .ensures in
     let e4 = sym (le-ltb (length (s .words .now)) (s .nv) (c .before .before .if4 .left)) in
     let e6 = sym (c .if5 .left) ∙ c .before .is-formula .ensures in
-    λ i. outcome (refuse (e1 i) 1 (refuse (e2 i) 2 (refuse (e3 i || e4 i) 4 (refuse (not (e6 i)) 6 0)))) (valueOf (s .w) (s .words .now) (tokens (s .count) (s .ops .now) (s .operands .now)))
+    λ i. outcome (refuse (e1 i) 1 (refuse (e2 i) 2 (refuse (e3 i || e4 i) 4 (refuse (not (e6 i)) 6 0)))) (valueOf (s .w) (s .words .now) (tokens (s .token-count) (s .ops .now) (s .operands .now)))
 
 pub eval-spec : {M : Type 1} → statement M
 eval-spec =

@@ -15,7 +15,7 @@ refusal-of-requires c κs = search needs
 returns : tie.Need-returns
 returns c =
     let a = c .before .before .before .before .before .before .before .args in
-    refused-built (a .w) (a .count) (a .rows .now) (a .limit) (arraysOf (a .pairs .now) (a .listed .now) (a .slots .now) (a .work .now)) (c .before .refusal-of .result) (c .before .refusal-of .ensures)
+    refused-built (a .w) (a .atom-count) (a .atom-rows .now) (a .limit) (arraysOf (a .pairs .now) (a .pair-rows .now) (a .order .now) (a .work .now)) (c .before .refusal-of .result) (c .before .refusal-of .ensures)
     (omega (arith, c .if1 .taken))
 
 build-requires : tie.Need-build-requires
@@ -23,16 +23,16 @@ build-requires c κs =
     let s = c .before .before .before .before .before .before .before .before .before .before .before in
     let a = s .args in
     let none : c .before .before .before .before .before .refusal-of .result ≡ 0 = omega (arith, c .before .before .before .before .if1 .left) in
-    let passed = none-refused (a .w) (a .count) (a .limit) (length (a .rows .now)) (length (a .pairs .now)) (length (a .listed .now)) (length (a .slots .now)) (length (a .work .now))
+    let passed = none-refused (a .w) (a .atom-count) (a .limit) (length (a .atom-rows .now)) (length (a .pairs .now)) (length (a .pair-rows .now)) (length (a .order .now)) (length (a .work .now))
     (c .before .before .before .before .before .refusal-of .result) (c .before .before .before .before .before .refusal-of .ensures) none in
-    fits-of (a .rows .now) (a .work .now) (a .pairs .now) (a .listed .now) (a .slots .now) passed
+    fits-of (a .atom-rows .now) (a .work .now) (a .pairs .now) (a .pair-rows .now) (a .order .now) passed
 
 cast-t25 : tie.Need-cast-t25
 cast-t25 c =
     let s = c .before .before .before .before .before .before .before .before .before .before .before .before .before .before .before .before .before .before .before .before .before in
     let a = s .args in
     let none : c .before .before .before .before .before .before .before .before .before .before .before .before .before .before .before .refusal-of .result ≡ 0 = omega (arith, c .before .before .before .before .before .before .before .before .before .before .before .before .before .before .if1 .left) in
-    let passed = none-refused (a .w) (a .count) (a .limit) (length (a .rows .now)) (length (a .pairs .now)) (length (a .listed .now)) (length (a .slots .now)) (length (a .work .now))
+    let passed = none-refused (a .w) (a .atom-count) (a .limit) (length (a .atom-rows .now)) (length (a .pairs .now)) (length (a .pair-rows .now)) (length (a .order .now)) (length (a .work .now))
     (c .before .before .before .before .before .before .before .before .before .before .before .before .before .before .before .refusal-of .result) (c .before .before .before .before .before .before .before .before .before .before .before .before .before .before .before .refusal-of .ensures) none in
     omega (arith, passed .most, c .before .before .before .before .before .before .before .before .before .build .ensures .within)
 
@@ -53,9 +53,9 @@ returns-2 c =
     let s = c .before .before .before .before .before .before .before .before .before .before .before .before .before .before .before .before .before .before .before .before .before in
     let a = s .args in
     let none : c .before .before .before .before .before .before .before .before .before .before .before .before .before .before .before .refusal-of .result ≡ 0 = omega (arith, c .before .before .before .before .before .before .before .before .before .before .before .before .before .before .if1 .left) in
-    let passed = none-refused (a .w) (a .count) (a .limit) (length (a .rows .now)) (length (a .pairs .now)) (length (a .listed .now)) (length (a .slots .now)) (length (a .work .now))
+    let passed = none-refused (a .w) (a .atom-count) (a .limit) (length (a .atom-rows .now)) (length (a .pairs .now)) (length (a .pair-rows .now)) (length (a .order .now)) (length (a .work .now))
     (c .before .before .before .before .before .before .before .before .before .before .before .before .before .before .before .refusal-of .result) (c .before .before .before .before .before .before .before .before .before .before .before .before .before .before .before .refusal-of .ensures) none in
-    made-built (a .w) (a .count) (a .rows .now) (a .limit) (arraysOf (a .pairs .now) (a .listed .now) (a .slots .now) (a .work .now)) _ (c .before .before .before .before .before .before .before .before .before .build .result)
+    made-built (a .w) (a .atom-count) (a .atom-rows .now) (a .limit) (arraysOf (a .pairs .now) (a .pair-rows .now) (a .order .now) (a .work .now)) _ (c .before .before .before .before .before .before .before .before .before .build .result)
     (c .before .before .before .before .before .before .before .before .before .before .before .before .before .before .before .refusal-of .result) (c .before .before .before .before .before .before .before .before .before .before .before .before .before .before .before .refusal-of .ensures) none (c .before .before .before .before .before .before .before .before .before .build .ensures)
 
 pub build-index-spec : {M : Type 1} → statement M

@@ -23,7 +23,7 @@ returns c =
     let e1 = c .before in
     let a = e1 .before .before .before .before .args in
     c .refused-row .ensures
-    ∙ ap (λ (k : ℕ). rowOr k (rowOf (a .w) (a .points) (tokens (a .count) (a .ops .now) (a .operands .now))))
+    ∙ ap (λ (k : ℕ). rowOr k (rowOf (a .w) (a .points) (tokens (a .token-count) (a .ops .now) (a .operands .now))))
     (sym (refused-here 1 _ (sym (e1 .before .bad-count .ensures) ∙ e1 .if1 .taken)))
 
 bad-width-requires : tie.Need-bad-width-requires
@@ -38,7 +38,7 @@ returns-2 c =
     let e1 = e2 .before .before in
     let a = e1 .before .before .before .before .args in
     c .refused-row2 .ensures
-    ∙ ap (λ (k : ℕ). rowOr k (rowOf (a .w) (a .points) (tokens (a .count) (a .ops .now) (a .operands .now))))
+    ∙ ap (λ (k : ℕ). rowOr k (rowOf (a .w) (a .points) (tokens (a .token-count) (a .ops .now) (a .operands .now))))
     (sym
     (refused-later 1 (sym (e1 .before .bad-count .ensures) ∙ e1 .if1 .left)
     (refused-here 2 _ (sym (e2 .before .bad-width .ensures) ∙ e2 .if2 .taken))))
@@ -56,7 +56,7 @@ returns-3 c =
     let e1 = e2 .before .before in
     let a = e1 .before .before .before .before .args in
     c .refused-row3 .ensures
-    ∙ ap (λ (k : ℕ). rowOr k (rowOf (a .w) (a .points) (tokens (a .count) (a .ops .now) (a .operands .now))))
+    ∙ ap (λ (k : ℕ). rowOr k (rowOf (a .w) (a .points) (tokens (a .token-count) (a .ops .now) (a .operands .now))))
     (sym
     (refused-later 1 (sym (e1 .before .bad-count .ensures) ∙ e1 .if1 .left)
     (refused-later 2 (sym (e2 .before .bad-width .ensures) ∙ e2 .if2 .left)
@@ -71,7 +71,7 @@ row-at-points-requires c κs =
     let e1 = e2 .before .before in
     let a = e1 .before .before .before .before .args in (
       within 1 64 (a .w) (sym (e2 .before .bad-width .ensures) ∙ e2 .if2 .left) .most,
-      formula-more (a .nv) 6 (within 1 6 (a .nv) (sym (e1 .before .bad-count .ensures) ∙ e1 .if1 .left) .most) (tokens (a .count) (a .ops .now) (a .operands .now)) (sym (c .before .is-formula .ensures) ∙ c .if4 .taken),
+      formula-more (a .nv) 6 (within 1 6 (a .nv) (sym (e1 .before .bad-count .ensures) ∙ e1 .if1 .left) .most) (tokens (a .token-count) (a .ops .now) (a .operands .now)) (sym (c .before .is-formula .ensures) ∙ c .if4 .taken),
     )
 
 refused-row-requires-4 : tie.Need-refused-row-requires-4
@@ -85,7 +85,7 @@ returns-4 c =
     let e1 = e2 .before .before in
     let a = e1 .before .before .before .before .args in
     ap (λ (row : List ℕ). rowOr 0 row) (c .row-at-points .ensures)
-    ∙ ap (λ (k : ℕ). rowOr k (rowOf (a .w) (a .points) (tokens (a .count) (a .ops .now) (a .operands .now))))
+    ∙ ap (λ (k : ℕ). rowOr k (rowOf (a .w) (a .points) (tokens (a .token-count) (a .ops .now) (a .operands .now))))
     (sym
     (refused-later 1 (sym (e1 .before .bad-count .ensures) ∙ e1 .if1 .left)
     (refused-later 2 (sym (e2 .before .bad-width .ensures) ∙ e2 .if2 .left)
@@ -100,7 +100,7 @@ returns-5 c =
     let e1 = e2 .before .before in
     let a = e1 .before .before .before .before .args in
     c .refused-row4 .ensures
-    ∙ ap (λ (k : ℕ). rowOr k (rowOf (a .w) (a .points) (tokens (a .count) (a .ops .now) (a .operands .now))))
+    ∙ ap (λ (k : ℕ). rowOr k (rowOf (a .w) (a .points) (tokens (a .token-count) (a .ops .now) (a .operands .now))))
     (sym
     (refused-later 1 (sym (e1 .before .bad-count .ensures) ∙ e1 .if1 .left)
     (refused-later 2 (sym (e2 .before .bad-width .ensures) ∙ e2 .if2 .left)

@@ -17,7 +17,7 @@ same-length c = search needs
 returns : tie.Need-returns
 returns c =
     let a = c .before .before .before .before .before .before .args in
-    refused-collected (a .w) (a .pairs) (a .listed .now) (a .slots .now) (a .p) (a .t) (a .list .now) (c .before .candidates-refusal .result) (c .before .candidates-refusal .ensures) (omega (arith, c .if1 .taken))
+    refused-collected (a .w) (a .pair-count) (a .pair-rows .now) (a .order .now) (a .p) (a .t) (a .candidates .now) (c .before .candidates-refusal .result) (c .before .candidates-refusal .ensures) (omega (arith, c .if1 .taken))
 
 is-used-requires : tie.Need-is-used-requires
 is-used-requires c κs = search needs
@@ -28,14 +28,14 @@ same-length-2 c = search needs
 returns-2 : tie.Need-returns-2
 returns-2 c =
     let a = c .before .before .before .before .before .before .before .before .args in
-    let ok = zero-of (a .w) (a .pairs) (a .listed .now) (a .slots .now) (a .p) (a .t) (a .list .now) (c .before .before .before .candidates-refusal .result) (c .before .before .before .candidates-refusal .ensures) (c .before .before .if1 .left) in
-    unused-collected (a .w) (a .pairs) (a .listed .now) (a .slots .now) (a .p) (a .t) (a .list .now) ok (sym (c .before .is-used .ensures) ∙ not-true _ (c .if2 .taken))
+    let ok = zero-of (a .w) (a .pair-count) (a .pair-rows .now) (a .order .now) (a .p) (a .t) (a .candidates .now) (c .before .before .before .candidates-refusal .result) (c .before .before .before .candidates-refusal .ensures) (c .before .before .if1 .left) in
+    unused-collected (a .w) (a .pair-count) (a .pair-rows .now) (a .order .now) (a .p) (a .t) (a .candidates .now) ok (sym (c .before .is-used .ensures) ∙ not-true _ (c .if2 .taken))
 
 solve-requires : tie.Need-solve-requires
 solve-requires c κs =
     let a = c .before .before .before .before .before .before .before .before .args in
-    let ok = zero-of (a .w) (a .pairs) (a .listed .now) (a .slots .now) (a .p) (a .t) (a .list .now) (c .before .before .before .candidates-refusal .result) (c .before .before .before .candidates-refusal .ensures) (c .before .before .if1 .left) in
-    let passed = none-refused (a .w) (a .pairs) (a .listed .now) (a .slots .now) (a .p) (a .t) (a .list .now) ok in
+    let ok = zero-of (a .w) (a .pair-count) (a .pair-rows .now) (a .order .now) (a .p) (a .t) (a .candidates .now) (c .before .before .before .candidates-refusal .result) (c .before .before .before .candidates-refusal .ensures) (c .before .before .if1 .left) in
+    let passed = none-refused (a .w) (a .pair-count) (a .pair-rows .now) (a .order .now) (a .p) (a .t) (a .candidates .now) ok in
     record {
       width = passed .width;
       p-below = passed .p-below;
@@ -55,23 +55,23 @@ same-length-3 c = search needs
 returns-3 : tie.Need-returns-3
 returns-3 c =
     let a = c .before .before .before .before .before .before .before .before .before .before .before .args in
-    let ok = zero-of (a .w) (a .pairs) (a .listed .now) (a .slots .now) (a .p) (a .t) (a .list .now) (c .before .before .before .before .before .before .candidates-refusal .result) (c .before .before .before .before .before .before .candidates-refusal .ensures) (c .before .before .before .before .before .if1 .left) in
+    let ok = zero-of (a .w) (a .pair-count) (a .pair-rows .now) (a .order .now) (a .p) (a .t) (a .candidates .now) (c .before .before .before .before .before .before .candidates-refusal .result) (c .before .before .before .before .before .before .candidates-refusal .ensures) (c .before .before .before .before .before .if1 .left) in
     let is-used = sym (c .before .before .before .before .is-used .ensures) ∙ not-false _ (c .before .before .before .if2 .left) in
-    none-collected (a .w) (a .pairs) (a .listed .now) (a .slots .now) (a .p) (a .t) (a .list .now) ok is-used (solved-none (c .before .before .solve .ensures) (c .enum-told .given .1))
+    none-collected (a .w) (a .pair-count) (a .pair-rows .now) (a .order .now) (a .p) (a .t) (a .candidates .now) ok is-used (solved-none (c .before .before .solve .ensures) (c .enum-told .given .1))
 
 collect-requires : tie.Need-collect-requires
 collect-requires c κs =
     let a = c .before .before .before .before .before .before .before .before .before .before .before .before .before .args in
-    let ok = zero-of (a .w) (a .pairs) (a .listed .now) (a .slots .now) (a .p) (a .t) (a .list .now) (c .before .before .before .before .before .before .before .before .candidates-refusal .result) (c .before .before .before .before .before .before .before .before .candidates-refusal .ensures) (c .before .before .before .before .before .before .before .if1 .left) in
-    let passed = none-refused (a .w) (a .pairs) (a .listed .now) (a .slots .now) (a .p) (a .t) (a .list .now) ok in
+    let ok = zero-of (a .w) (a .pair-count) (a .pair-rows .now) (a .order .now) (a .p) (a .t) (a .candidates .now) (c .before .before .before .before .before .before .before .before .candidates-refusal .result) (c .before .before .before .before .before .before .before .before .candidates-refusal .ensures) (c .before .before .before .before .before .before .before .if1 .left) in
+    let passed = none-refused (a .w) (a .pair-count) (a .pair-rows .now) (a .order .now) (a .p) (a .t) (a .candidates .now) ok in
     let class = solved-class (c .before .before .before .before .solve .ensures) (c .before .before .bits .given .1) in
     (passed .ordered, class-small (passed .width) class, passed .room)
 
 cast-t20 : tie.Need-cast-t20
 cast-t20 c =
     let a = c .before .before .before .before .before .before .before .before .before .before .before .before .before .before .before .before .args in
-    let ok = zero-of (a .w) (a .pairs) (a .listed .now) (a .slots .now) (a .p) (a .t) (a .list .now) (c .before .before .before .before .before .before .before .before .before .before .before .candidates-refusal .result) (c .before .before .before .before .before .before .before .before .before .before .before .candidates-refusal .ensures) (c .before .before .before .before .before .before .before .before .before .before .if1 .left) in
-    let passed = none-refused (a .w) (a .pairs) (a .listed .now) (a .slots .now) (a .p) (a .t) (a .list .now) ok in
+    let ok = zero-of (a .w) (a .pair-count) (a .pair-rows .now) (a .order .now) (a .p) (a .t) (a .candidates .now) (c .before .before .before .before .before .before .before .before .before .before .before .candidates-refusal .result) (c .before .before .before .before .before .before .before .before .before .before .before .candidates-refusal .ensures) (c .before .before .before .before .before .before .before .before .before .before .if1 .left) in
+    let passed = none-refused (a .w) (a .pair-count) (a .pair-rows .now) (a .order .now) (a .p) (a .t) (a .candidates .now) ok in
     omega (arith, passed .ordered .most, c .before .before .collect .ensures .within)
 
 same-length-4 : tie.Need-same-length-4
@@ -80,11 +80,11 @@ same-length-4 c = search needs
 returns-4 : tie.Need-returns-4
 returns-4 c =
     let a = c .before .before .before .before .before .before .before .before .before .before .before .before .before .before .before .before .args in
-    let ok = zero-of (a .w) (a .pairs) (a .listed .now) (a .slots .now) (a .p) (a .t) (a .list .now) (c .before .before .before .before .before .before .before .before .before .before .before .candidates-refusal .result) (c .before .before .before .before .before .before .before .before .before .before .before .candidates-refusal .ensures) (c .before .before .before .before .before .before .before .before .before .before .if1 .left) in
+    let ok = zero-of (a .w) (a .pair-count) (a .pair-rows .now) (a .order .now) (a .p) (a .t) (a .candidates .now) (c .before .before .before .before .before .before .before .before .before .before .before .candidates-refusal .result) (c .before .before .before .before .before .before .before .before .before .before .before .candidates-refusal .ensures) (c .before .before .before .before .before .before .before .before .before .before .if1 .left) in
     let is-used = sym (c .before .before .before .before .before .before .before .before .before .is-used .ensures) ∙ not-false _ (c .before .before .before .before .before .before .before .before .if2 .left) in
-    let passed = none-refused (a .w) (a .pairs) (a .listed .now) (a .slots .now) (a .p) (a .t) (a .list .now) ok in
+    let passed = none-refused (a .w) (a .pair-count) (a .pair-rows .now) (a .order .now) (a .p) (a .t) (a .candidates .now) ok in
     let class = solved-class (c .before .before .before .before .before .before .before .solve .ensures) (c .before .before .before .before .before .bits .given .1) in
-    class-collected (a .w) (a .pairs) (a .listed .now) (a .slots .now) (a .p) (a .t) (a .list .now) ok is-used class (passed .ordered) _ (c .before .before .collect .result) (c .before .before .collect .ensures)
+    class-collected (a .w) (a .pair-count) (a .pair-rows .now) (a .order .now) (a .p) (a .t) (a .candidates .now) ok is-used class (passed .ordered) _ (c .before .before .collect .result) (c .before .before .collect .ensures)
 
 pub collect-mul-probe0-candidates-spec : {M : Type 1} → statement M
 collect-mul-probe0-candidates-spec =

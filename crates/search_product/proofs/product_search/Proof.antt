@@ -14,7 +14,7 @@ returns : tie.Need-returns
 returns c =
     let r = c .before in
     let a = r .before .before .before .before .args in
-    says-refused (a .w) (a .count) (a .atoms .now) (a .pairs) (a .listed .now) (a .slots .now) (a .t7) (r .search-refusal .result) (r .search-refusal .ensures) (omega (arith, c .if1 .taken))
+    says-refused (a .w) (a .atom-count) (a .atom-rows .now) (a .pair-count) (a .pair-rows .now) (a .order .now) (a .t7) (r .search-refusal .result) (r .search-refusal .ensures) (omega (arith, c .if1 .taken))
 
 slice-aggregate-search-rows : tie.Need-slice-aggregate-search-rows
 slice-aggregate-search-rows c = search needs
@@ -23,7 +23,7 @@ search-rows-requires : tie.Need-search-rows-requires
 search-rows-requires c κs =
     let r = c .before .before in
     let a = r .before .before .before .before .args in
-    none-refused (a .w) (a .count) (a .atoms .now) (a .pairs) (a .listed .now) (a .slots .now) (a .t7) (sym (r .search-refusal .ensures) ∙ c .before .if1 .left) (search needs)
+    none-refused (a .w) (a .atom-count) (a .atom-rows .now) (a .pair-count) (a .pair-rows .now) (a .order .now) (a .t7) (sym (r .search-refusal .ensures) ∙ c .before .if1 .left) (search needs)
 
 enum-known-a : tie.Need-enum-known-a
 enum-known-a c = search needs
@@ -40,7 +40,7 @@ returns-2 c =
     let e = f .before .before in
     let r = e .before in
     let a = r .before .before .before .before .args in
-    says-found (a .w) (a .count) (a .atoms .now) (a .pairs) (a .listed .now) (a .slots .now) (a .t7) _ (sym (r .search-refusal .ensures) ∙ e .if1 .left)
+    says-found (a .w) (a .atom-count) (a .atom-rows .now) (a .pair-count) (a .pair-rows .now) (a .order .now) (a .t7) _ (sym (r .search-refusal .ensures) ∙ e .if1 .left)
     (ap foundSays (sym (c .before .a .given .1)) ∙ f .search-rows .ensures)
 
 returns-3 : tie.Need-returns-3
@@ -49,7 +49,7 @@ returns-3 c =
     let e = f .before .before in
     let r = e .before in
     let a = r .before .before .before .before .args in
-    says-found (a .w) (a .count) (a .atoms .now) (a .pairs) (a .listed .now) (a .slots .now) (a .t7) _ (sym (r .search-refusal .ensures) ∙ e .if1 .left)
+    says-found (a .w) (a .atom-count) (a .atom-rows .now) (a .pair-count) (a .pair-rows .now) (a .order .now) (a .t7) _ (sym (r .search-refusal .ensures) ∙ e .if1 .left)
     (ap foundSays (sym (c .before .a2 .given .1)) ∙ f .search-rows .ensures)
 
 returns-4 : tie.Need-returns-4
@@ -58,7 +58,7 @@ returns-4 c =
     let e = f .before .before in
     let r = e .before in
     let a = r .before .before .before .before .args in
-    says-found (a .w) (a .count) (a .atoms .now) (a .pairs) (a .listed .now) (a .slots .now) (a .t7) _ (sym (r .search-refusal .ensures) ∙ e .if1 .left)
+    says-found (a .w) (a .atom-count) (a .atom-rows .now) (a .pair-count) (a .pair-rows .now) (a .order .now) (a .t7) _ (sym (r .search-refusal .ensures) ∙ e .if1 .left)
     (ap foundSays (sym (c .enum-told .given .1)) ∙ f .search-rows .ensures)
 
 pub product-search-spec : {M : Type 1} → statement M

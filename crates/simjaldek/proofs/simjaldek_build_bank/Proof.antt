@@ -18,7 +18,7 @@ returns : tie.Need-returns
 returns c =
     let r = c .before .before in
     let a = r .before .before .before .before .before .before .before .before .before .args in
-    bank-early (a .nv) (a .w) (a .points .now) (a .target .now) (arrays (a .lengths .now) (a .ops .now) (a .operands .now) (a .costs .now) (a .rows .now)) (a .work .now) (r .points-row-refusal .result) _ (r .points-row-refusal .ensures)
+    bank-early (a .nv) (a .w) (a .points .now) (a .target .now) (arrays (a .atom-lengths .now) (a .atom-ops .now) (a .atom-operands .now) (a .atom-costs .now) (a .atom-rows .now)) (a .work .now) (r .points-row-refusal .result) _ (r .points-row-refusal .ensures)
     (omega (arith, c .before .if1 .taken)) (c .refused .ensures)
 
 points-of-requires : tie.Need-points-of-requires
@@ -63,7 +63,7 @@ returns-2 c =
     let l = b .before .before .before .before .before .before .before in
     let r = l .before .before .before in
     let a = r .before .before .before .before .before .before .before .before .before .args in
-    bank-built (a .nv) (a .w) (a .points .now) (a .target .now) (arrays (a .lengths .now) (a .ops .now) (a .operands .now) (a .costs .now) (a .rows .now)) _ (a .work .now) _ (r .points-row-refusal .result) (l .before .points-of .result) (l .load-row .result) (b .build-bank .result) _ (r .points-row-refusal .ensures) (l .before .before .if1 .left) (l .before .points-of .ensures) (l .load-row .ensures) (b .build-bank .ensures) (c .of-bank .ensures)
+    bank-built (a .nv) (a .w) (a .points .now) (a .target .now) (arrays (a .atom-lengths .now) (a .atom-ops .now) (a .atom-operands .now) (a .atom-costs .now) (a .atom-rows .now)) _ (a .work .now) _ (r .points-row-refusal .result) (l .before .points-of .result) (l .load-row .result) (b .build-bank .result) _ (r .points-row-refusal .ensures) (l .before .before .if1 .left) (l .before .points-of .ensures) (l .load-row .ensures) (b .build-bank .ensures) (c .of-bank .ensures)
 
 pub simjaldek-build-bank-spec : {M : Type 1} → statement M
 simjaldek-build-bank-spec =

@@ -24,7 +24,7 @@ returns c =
     let r = c .before .before in
     let a = r .before .before .before .args in
     c .refused .ensures
-    ∙ told-early optionReply (rowRefusal (a .w) (a .row .now)) (found (a .w) (a .count) (a .rows .now) (rowIn (a .row .now))) (r .row-refusal .result) (r .row-refusal .ensures)
+    ∙ told-early optionReply (rowRefusal (a .w) (a .row .now)) (found (a .w) (a .atom-count) (a .atom-rows .now) (rowIn (a .row .now))) (r .row-refusal .result) (r .row-refusal .ensures)
     (omega (arith, c .before .if1 .taken))
 
 load-row-requires : tie.Need-load-row-requires
@@ -44,7 +44,7 @@ returns-2 c =
     let l = c .before .before in
     let r = l .before .before in
     let a = r .before .before .before .args in
-    let call : List ℕ → Outcome (Option ℕ) = λ row. found (a .w) (a .count) (a .rows .now) row in
+    let call : List ℕ → Outcome (Option ℕ) = λ row. found (a .w) (a .atom-count) (a .atom-rows .now) row in
     c .of-slot .ensures
     ∙ told-call optionReply (rowRefusal (a .w) (a .row .now)) (call (rowIn (a .row .now))) _ (r .row-refusal .result) (r .row-refusal .ensures) (l .before .if1 .left)
     (c .before .find-row .ensures ∙ ap call (l .load-row .ensures))

@@ -22,7 +22,7 @@ returns c =
     let r = c .before .before in
     let a = r .before .before .before .before .args in
     c .refused-row .ensures
-    ∙ row-early (pointsRefusal (a .nv) (a .w) (a .points .now)) (probed (a .nv) (a .w) (pointsIn (a .points .now)) (a .count) (a .ops .now) (a .operands .now)) (r .points-refusal .result) (r .points-refusal .ensures) (omega (arith, c .before .if1 .taken))
+    ∙ row-early (pointsRefusal (a .nv) (a .w) (a .points .now)) (probed (a .nv) (a .w) (pointsIn (a .points .now)) (a .token-count) (a .ops .now) (a .operands .now)) (r .points-refusal .result) (r .points-refusal .ensures) (omega (arith, c .before .if1 .taken))
 
 points-of-requires : tie.Need-points-of-requires
 points-of-requires c κs =
@@ -41,7 +41,7 @@ returns-2 c =
     let l = c .before .before in
     let r = l .before .before in
     let a = r .before .before .before .before .args in
-    let call : List Point → RowAnswer = λ ps. probed (a .nv) (a .w) ps (a .count) (a .ops .now) (a .operands .now) in
+    let call : List Point → RowAnswer = λ ps. probed (a .nv) (a .w) ps (a .token-count) (a .ops .now) (a .operands .now) in
     c .of-row .ensures
     ∙ row-call (pointsRefusal (a .nv) (a .w) (a .points .now)) (call (pointsIn (a .points .now))) _ (r .points-refusal .result) (r .points-refusal .ensures) (l .before .if1 .left) (c .before .probe .ensures ∙ ap call (l .points-of .ensures))
 

@@ -25,7 +25,7 @@ returns c =
     let r = c .before .before in
     let a = r .before .before .before .before .before .args in
     c .refused .ensures
-    ∙ told-early productReply (rowRefusal (a .w) (a .target .now)) (product (a .w) (a .count) (a .atoms .now) (a .pairs) (a .listed .now) (a .slots .now) (rowIn (a .target .now))) (r .row-refusal .result) (r .row-refusal .ensures)
+    ∙ told-early productReply (rowRefusal (a .w) (a .target .now)) (product (a .w) (a .atom-count) (a .atom-rows .now) (a .pair-count) (a .pair-rows .now) (a .order .now) (rowIn (a .target .now))) (r .row-refusal .result) (r .row-refusal .ensures)
     (omega (arith, c .before .if1 .taken))
 
 load-row-requires : tie.Need-load-row-requires
@@ -45,7 +45,7 @@ returns-2 c =
     let l = c .before .before in
     let r = l .before .before in
     let a = r .before .before .before .before .before .args in
-    let call : List ℕ → Outcome (Option Product) = λ row. product (a .w) (a .count) (a .atoms .now) (a .pairs) (a .listed .now) (a .slots .now) row in
+    let call : List ℕ → Outcome (Option Product) = λ row. product (a .w) (a .atom-count) (a .atom-rows .now) (a .pair-count) (a .pair-rows .now) (a .order .now) row in
     c .of-product .ensures
     ∙ told-call productReply (rowRefusal (a .w) (a .target .now)) (call (rowIn (a .target .now))) _ (r .row-refusal .result) (r .row-refusal .ensures) (l .before .if1 .left)
     (c .before .product-search .ensures ∙ ap call (l .load-row .ensures))

@@ -16,7 +16,7 @@ try-gates-requires c κs =
     let a = s .args in
     let bits = c .before .before .before .before .before .before .before .map-bits in
     let done = c .before .before .before .before .before .prepare in
-    ready-start (a .w) (a .count) (a .limit) (bits .result) (a .rows .now) (a .work .now) (a .pairs .now) (a .listed .now) (a .slots .now) _ (s .pre) (bits .ensures .0) (bits .ensures .1)
+    ready-start (a .w) (a .count) (a .limit) (bits .result) (a .atoms .now) (a .work .now) (a .pairs .now) (a .listed .now) (a .order .now) _ (s .pre) (bits .ensures .0) (bits .ensures .1)
     (done .kept .0) (done .ensures)
 
 sort-order-requires : tie.Need-sort-order-requires
@@ -37,7 +37,7 @@ same-length-4 c = search needs
 returns : tie.Need-returns
 returns c =
     let a = c .before .before .before .before .before .before .before .before .before .before .before .before .before .before .before .before .before .before .before .before .before .before .before .before .before .before .before .before .args in
-    made-is (a .w) (a .count) (a .limit) (c .before .before .before .before .before .before .before .before .before .before .before .before .before .before .before .before .before .before .before .before .before .before .map-bits .result) (a .rows .now) (a .pairs .now) (a .listed .now) (a .slots .now) _ _ _ _ (c .before .before .before .before .before .before .before .before .before .before .before .before .before .before .try-gates .result)
+    made-is (a .w) (a .count) (a .limit) (c .before .before .before .before .before .before .before .before .before .before .before .before .before .before .before .before .before .before .before .before .before .before .map-bits .result) (a .atoms .now) (a .pairs .now) (a .listed .now) (a .order .now) _ _ _ _ (c .before .before .before .before .before .before .before .before .before .before .before .before .before .before .try-gates .result)
     (c .before .before .before .before .before .before .before .before .before .before .before .before .before .before .try-gates .ensures) (c .before .before .before .before .sort-order .ensures)
 
 pub build-spec : {M : Type 1} → statement M

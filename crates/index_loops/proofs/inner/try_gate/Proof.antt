@@ -26,7 +26,7 @@ loop-holds c =
         work-long = refl;
         pairs-long = refl;
         rows-long = refl;
-        ran = renamed (sym (gate-none (a .job .count) (a .g))) (ran-none (a .job) (a .rows .now) (a .pairs .now) (a .listed .now) (a .n) (a .work .now) (s .pre));
+        ran = renamed (sym (gate-none (a .job .count) (a .g))) (ran-none (a .job) (a .atoms .now) (a .pairs .now) (a .listed .now) (a .n) (a .work .now) (s .pre));
       },
     )
 

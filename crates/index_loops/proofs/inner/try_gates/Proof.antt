@@ -27,7 +27,7 @@ loop-holds c =
         work-long = refl;
         pairs-long = refl;
         rows-long = refl;
-        ran = renamed (sym (gates-none (a .job .count))) (ran-none (a .job) (a .rows .now) (a .pairs .now) (a .listed .now) 0 (a .work .now) (s .pre));
+        ran = renamed (sym (gates-none (a .job .count))) (ran-none (a .job) (a .atoms .now) (a .pairs .now) (a .listed .now) 0 (a .work .now) (s .pre));
       },
     )
 

@@ -37,7 +37,7 @@ loop-holds c =
           work-long = refl;
           pairs-long = refl;
           rows-long = refl;
-          ran = renamed (up-start (a .g) (a .b .0) (c .first-c .result) e) (ran-none (a .job) (a .rows .now) (a .pairs .now) (a .listed .now) (a .n) (a .work .now) (s .pre .0));
+          ran = renamed (up-start (a .g) (a .b .0) (c .first-c .result) e) (ran-none (a .job) (a .atoms .now) (a .pairs .now) (a .listed .now) (a .n) (a .work .now) (s .pre .0));
         },
       ),
     )

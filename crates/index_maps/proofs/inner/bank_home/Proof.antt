@@ -23,15 +23,15 @@ cast-result : tie.Need-cast-result
 cast-result c = search needs
 
 -- the chain is the row's
-homed : (c : tie.After-reduce) → c .reduce .result ≡ homeOf bankBits (partAt 16 (c .before .before .before .before .args .rows .now) (c .before .before .before .before .args .i))
+homed : (c : tie.After-reduce) → c .reduce .result ≡ homeOf bankBits (partAt 16 (c .before .before .before .before .args .atoms .now) (c .before .before .before .before .args .i))
 unfolding homeOf
 homed c = c .reduce .ensures ∙ ap (λ (x : ℕ). x % 2 ^ bankBits) (c .before .fingerprint .ensures ∙ ap fingerprintOf (c .before .before .load-row .ensures))
 
 returns : tie.Need-returns
 returns c =
     let s = c .before .before .before .before in
-    let e : c .reduce .result ≡ homeOf bankBits (partAt 16 (s .args .rows .now) (s .args .i)) = homed c in
-    (e, subst (λ (k : ℕ). k < 2 ^ bankBits) (sym e) (home-small bankBits (partAt 16 (s .args .rows .now) (s .args .i))))
+    let e : c .reduce .result ≡ homeOf bankBits (partAt 16 (s .args .atoms .now) (s .args .i)) = homed c in
+    (e, subst (λ (k : ℕ). k < 2 ^ bankBits) (sym e) (home-small bankBits (partAt 16 (s .args .atoms .now) (s .args .i))))
 
 pub bank-home-spec : {M : Type 1} → statement M
 bank-home-spec =

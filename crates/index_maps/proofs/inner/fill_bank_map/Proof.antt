@@ -23,7 +23,7 @@ clear-requires c κs = search needs
 loop-holds : tie.Need-loop-holds Inv-loop μ-loop
 loop-holds c =
     let s = c .before .before .before .before .before .before in
-    (search needs, (search needs, subst (λ (z : List ℕ). Held z (s .args .rows .now) bankBits 0) (sym (c .before .before .clear .ensures)) (held-empty (s .args .map .now) (s .args .rows .now) bankBits)))
+    (search needs, (search needs, subst (λ (z : List ℕ). Held z (s .args .atoms .now) bankBits 0) (sym (c .before .before .clear .ensures)) (held-empty (s .args .map .now) (s .args .atoms .now) bankBits)))
 
 bank-home-requires : tie.Need-bank-home-requires Inv-loop μ-loop
 bank-home-requires c κs = search needs
@@ -41,7 +41,7 @@ loop-again : tie.Need-loop-again Inv-loop μ-loop
 loop-again c =
     let t = c .before .before .before .before .before .before in
     let s = t .before .before .before .before .before .before .before in
-    (omega arith, (search needs, c .before .before .insert .ensures .held (s .args .rows .now) (t .loop .inv .1 .1) (c .before .before .before .before .bank-home .ensures .0)))
+    (omega arith, (search needs, c .before .before .insert .ensures .held (s .args .atoms .now) (t .loop .inv .1 .1) (c .before .before .before .before .bank-home .ensures .0)))
 
 same-length : tie.Need-same-length Inv-loop μ-loop
 same-length c = search needs
@@ -51,7 +51,7 @@ returns c =
     let l = c .before .loop in
     let s = c .before .before .before .before .before .before .before .before in
     let e : l .i ≡ s .args .count = omega arith in
-    subst (λ (k : ℕ). Held (l .map) (s .args .rows .now) bankBits k) e (l .inv .1 .1)
+    subst (λ (k : ℕ). Held (l .map) (s .args .atoms .now) bankBits k) e (l .inv .1 .1)
 
 pub fill-bank-map-spec : {M : Type 1} → statement M
 fill-bank-map-spec =

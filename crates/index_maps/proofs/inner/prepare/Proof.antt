@@ -43,7 +43,7 @@ returns : tie.Need-returns
 returns c =
     let f = c .before .before .before .before .before .before in
     let s = f .before .before .before .before in
-    let rows = s .args .rows .now in
+    let rows = s .args .atoms .now in
     let work = s .args .work .now in
     let new = f .fill-bank-map .last .0 in
     let one = putMid 0 (bankArea - 0) work new in

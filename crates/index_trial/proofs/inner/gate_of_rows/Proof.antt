@@ -83,10 +83,10 @@ returns c =
     let t = c .before in
     let s = t .before .before .before .before in
     let a = s .args in
-    let lb = length-part 16 (a .rows .now) (a .b .0) (s .pre .0) in
-    let lc = length-part 16 (a .rows .now) (a .c .0) (s .pre .1) in
-    zipped (gateOf (a .g) (a .w)) (partAt 16 (a .rows .now) (a .b .0)) (partAt 16 (a .rows .now) (a .c .0)) (t .loop .row) (t .loop .i) (omega arith) (omega arith) (omega arith)
-    (λ k h. t .loop .inv .1 .1 k h ∙ sym (ap₂ (gateOf (a .g) (a .w)) (getD-part 16 (a .rows .now) (a .b .0) k (omega arith)) (getD-part 16 (a .rows .now) (a .c .0) k (omega arith))))
+    let lb = length-part 16 (a .atoms .now) (a .b .0) (s .pre .0) in
+    let lc = length-part 16 (a .atoms .now) (a .c .0) (s .pre .1) in
+    zipped (gateOf (a .g) (a .w)) (partAt 16 (a .atoms .now) (a .b .0)) (partAt 16 (a .atoms .now) (a .c .0)) (t .loop .row) (t .loop .i) (omega arith) (omega arith) (omega arith)
+    (λ k h. t .loop .inv .1 .1 k h ∙ sym (ap₂ (gateOf (a .g) (a .w)) (getD-part 16 (a .atoms .now) (a .b .0) k (omega arith)) (getD-part 16 (a .atoms .now) (a .c .0) k (omega arith))))
 
 pub gate-of-rows-spec : {M : Type 1} → statement M
 gate-of-rows-spec =

@@ -50,7 +50,7 @@ returns c =
     let able = s .pre .1 in
     let long : length (a .row) ≡ 16 = put-long (a .n .0) (a .listed .now) (a .row) (omega (arith, size .rows-fit, able .room)) (sym (ap length (row .ensures)) ∙ row .kept .0) in
     record {
-      ready = ready-more (a .job) (a .rows .now) (a .work .now) (a .pairs .now) (a .listed .now) (a .n .0) (s .pre .0) _ _ _ (a .home) (a .row) (a .b .0) (a .c .0) (s .pre .1) long
+      ready = ready-more (a .job) (a .atoms .now) (a .work .now) (a .pairs .now) (a .listed .now) (a .n .0) (s .pre .0) _ _ _ (a .home) (a .row) (a .b .0) (a .c .0) (s .pre .1) long
           (put .kept .0) (pair .kept .0) (row .ensures) (put .ensures);
       pairs-are = pair .ensures;
       rows-are = row .ensures;

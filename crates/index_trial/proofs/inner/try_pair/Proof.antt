@@ -24,7 +24,7 @@ in-bank-requires : tie.Need-in-bank-requires
 in-bank-requires c κs =
     let s = c .before .before .before .before .before .before .before in
     let a = s .args in
-    (bank-searchable (a .job) (a .rows .now) (a .work .now) (a .pairs .now) (a .listed .now) (a .n) (s .pre .0), c .before .fingerprint .ensures)
+    (bank-searchable (a .job) (a .atoms .now) (a .work .now) (a .pairs .now) (a .listed .now) (a .n) (s .pre .0), c .before .fingerprint .ensures)
 
 same-length : tie.Need-same-length
 same-length c = search needs
@@ -33,17 +33,17 @@ returns : tie.Need-returns
 returns c =
     let s = c .before .before .before .before .before .before .before .before .before in
     let a = s .args in
-    let same : c .before .before .before .before .gate-of-rows .result ≡ trialRow (a .job .w) (rowsOf (a .job .count) (a .rows .now)) (trial (a .g) (a .b .0) (a .c .0)) =
-    c .before .before .before .before .gate-of-rows .ensures ∙ trial-row (a .g) (a .job .w) (a .job .count) (a .rows .now) (a .b .0) (a .c .0) (s .pre .1) (s .pre .2) in
-    let held-same : (rows : List (List ℕ)) → holds rows (trialRow (a .job .w) (rowsOf (a .job .count) (a .rows .now)) (trial (a .g) (a .b .0) (a .c .0))) ≡ holds rows (c .before .before .before .before .gate-of-rows .result) =
+    let same : c .before .before .before .before .gate-of-rows .result ≡ trialRow (a .job .w) (rowsOf (a .job .count) (a .atoms .now)) (trial (a .g) (a .b .0) (a .c .0)) =
+    c .before .before .before .before .gate-of-rows .ensures ∙ trial-row (a .g) (a .job .w) (a .job .count) (a .atoms .now) (a .b .0) (a .c .0) (s .pre .1) (s .pre .2) in
+    let held-same : (rows : List (List ℕ)) → holds rows (trialRow (a .job .w) (rowsOf (a .job .count) (a .atoms .now)) (trial (a .g) (a .b .0) (a .c .0))) ≡ holds rows (c .before .before .before .before .gate-of-rows .result) =
     λ rows. ap (holds rows) (sym same) in
-    ran-in-bank (a .job) (a .rows .now) (trial (a .g) (a .b .0) (a .c .0)) (a .work .now) (a .pairs .now) (a .listed .now) (a .n) (s .pre .0) (held-same _ ∙ sym (c .before .in-bank .ensures) ∙ c .if1 .taken)
+    ran-in-bank (a .job) (a .atoms .now) (trial (a .g) (a .b .0) (a .c .0)) (a .work .now) (a .pairs .now) (a .listed .now) (a .n) (s .pre .0) (held-same _ ∙ sym (c .before .in-bank .ensures) ∙ c .if1 .taken)
 
 find-pair-requires : tie.Need-find-pair-requires
 find-pair-requires c κs =
     let s = c .before .before .before .before .before .before .before .before .before .before .before in
     let a = s .args in
-    (pair-searchable (a .job) (a .rows .now) (a .work .now) (a .pairs .now) (a .listed .now) (a .n) (s .pre .0), c .before .before .before .before .before .fingerprint .ensures)
+    (pair-searchable (a .job) (a .atoms .now) (a .work .now) (a .pairs .now) (a .listed .now) (a .n) (s .pre .0), c .before .before .before .before .before .fingerprint .ensures)
 
 enum-told : tie.Need-enum-told
 enum-told c = search needs
@@ -61,12 +61,12 @@ returns-2 : tie.Need-returns-2
 returns-2 c =
     let s = c .before .before .before .before .before .before .before .before .before .before .before .before .before .before .before .before .before in
     let a = s .args in
-    let same : c .before .before .before .before .before .before .before .before .before .before .before .before .gate-of-rows .result ≡ trialRow (a .job .w) (rowsOf (a .job .count) (a .rows .now)) (trial (a .g) (a .b .0) (a .c .0)) =
-    c .before .before .before .before .before .before .before .before .before .before .before .before .gate-of-rows .ensures ∙ trial-row (a .g) (a .job .w) (a .job .count) (a .rows .now) (a .b .0) (a .c .0) (s .pre .1) (s .pre .2) in
-    let held-same : (rows : List (List ℕ)) → holds rows (trialRow (a .job .w) (rowsOf (a .job .count) (a .rows .now)) (trial (a .g) (a .b .0) (a .c .0))) ≡ holds rows (c .before .before .before .before .before .before .before .before .before .before .before .before .gate-of-rows .result) =
+    let same : c .before .before .before .before .before .before .before .before .before .before .before .before .gate-of-rows .result ≡ trialRow (a .job .w) (rowsOf (a .job .count) (a .atoms .now)) (trial (a .g) (a .b .0) (a .c .0)) =
+    c .before .before .before .before .before .before .before .before .before .before .before .before .gate-of-rows .ensures ∙ trial-row (a .g) (a .job .w) (a .job .count) (a .atoms .now) (a .b .0) (a .c .0) (s .pre .1) (s .pre .2) in
+    let held-same : (rows : List (List ℕ)) → holds rows (trialRow (a .job .w) (rowsOf (a .job .count) (a .atoms .now)) (trial (a .g) (a .b .0) (a .c .0))) ≡ holds rows (c .before .before .before .before .before .before .before .before .before .before .before .before .gate-of-rows .result) =
     λ rows. ap (holds rows) (sym same) in
     let miss = lookup-free (c .before .before .before .home .given .1) (c .before .before .before .before .before .find-pair .ensures) in
-    ran-full (a .job) (a .rows .now) (trial (a .g) (a .b .0) (a .c .0)) (a .work .now) (a .pairs .now) (a .listed .now) (a .n) (s .pre .0) (held-same _ ∙ sym (c .before .before .before .before .before .before .before .before .before .in-bank .ensures) ∙ c .before .before .before .before .before .before .before .before .if1 .left) (held-same _ ∙ miss-holds miss) (c .if2 .taken)
+    ran-full (a .job) (a .atoms .now) (trial (a .g) (a .b .0) (a .c .0)) (a .work .now) (a .pairs .now) (a .listed .now) (a .n) (s .pre .0) (held-same _ ∙ sym (c .before .before .before .before .before .before .before .before .before .in-bank .ensures) ∙ c .before .before .before .before .before .before .before .before .if1 .left) (held-same _ ∙ miss-holds miss) (c .if2 .taken)
 
 cast-t24 : tie.Need-cast-t24
 cast-t24 c = search needs
@@ -91,12 +91,12 @@ returns-3 : tie.Need-returns-3
 returns-3 c =
     let s = c .before .before .before .before .before .before .before .before .before .before .before .before .before .before in
     let a = s .args in
-    let same : c .before .before .before .before .before .before .before .before .before .gate-of-rows .result ≡ trialRow (a .job .w) (rowsOf (a .job .count) (a .rows .now)) (trial (a .g) (a .b .0) (a .c .0)) =
-    c .before .before .before .before .before .before .before .before .before .gate-of-rows .ensures ∙ trial-row (a .g) (a .job .w) (a .job .count) (a .rows .now) (a .b .0) (a .c .0) (s .pre .1) (s .pre .2) in
-    let held-same : (rows : List (List ℕ)) → holds rows (trialRow (a .job .w) (rowsOf (a .job .count) (a .rows .now)) (trial (a .g) (a .b .0) (a .c .0))) ≡ holds rows (c .before .before .before .before .before .before .before .before .before .gate-of-rows .result) =
+    let same : c .before .before .before .before .before .before .before .before .before .gate-of-rows .result ≡ trialRow (a .job .w) (rowsOf (a .job .count) (a .atoms .now)) (trial (a .g) (a .b .0) (a .c .0)) =
+    c .before .before .before .before .before .before .before .before .before .gate-of-rows .ensures ∙ trial-row (a .g) (a .job .w) (a .job .count) (a .atoms .now) (a .b .0) (a .c .0) (s .pre .1) (s .pre .2) in
+    let held-same : (rows : List (List ℕ)) → holds rows (trialRow (a .job .w) (rowsOf (a .job .count) (a .atoms .now)) (trial (a .g) (a .b .0) (a .c .0))) ≡ holds rows (c .before .before .before .before .before .before .before .before .before .gate-of-rows .result) =
     λ rows. ap (holds rows) (sym same) in
     let hit = lookup-at (a .job .bits) (c .enum-told .given .1) (c .before .before .find-pair .ensures) in
-    ran-in-pairs (a .job) (a .rows .now) (trial (a .g) (a .b .0) (a .c .0)) (a .work .now) (a .pairs .now) (a .listed .now) (a .n) (s .pre .0) (held-same _ ∙ hit-holds hit)
+    ran-in-pairs (a .job) (a .atoms .now) (trial (a .g) (a .b .0) (a .c .0)) (a .work .now) (a .pairs .now) (a .listed .now) (a .n) (s .pre .0) (held-same _ ∙ hit-holds hit)
 
 same-length-6 : tie.Need-same-length-6
 same-length-6 c = search needs
@@ -111,15 +111,15 @@ returns-4 : tie.Need-returns-4
 returns-4 c =
     let s = c .before .before .before .before .before .before .before .before .before .before .before .before .before .before .before .before .before .before .before .before .before .before .before .before .before .before .before in
     let a = s .args in
-    let same : c .before .before .before .before .before .before .before .before .before .before .before .before .before .before .before .before .before .before .before .before .before .before .gate-of-rows .result ≡ trialRow (a .job .w) (rowsOf (a .job .count) (a .rows .now)) (trial (a .g) (a .b .0) (a .c .0)) =
-    c .before .before .before .before .before .before .before .before .before .before .before .before .before .before .before .before .before .before .before .before .before .before .gate-of-rows .ensures ∙ trial-row (a .g) (a .job .w) (a .job .count) (a .rows .now) (a .b .0) (a .c .0) (s .pre .1) (s .pre .2) in
-    let held-same : (rows : List (List ℕ)) → holds rows (trialRow (a .job .w) (rowsOf (a .job .count) (a .rows .now)) (trial (a .g) (a .b .0) (a .c .0))) ≡ holds rows (c .before .before .before .before .before .before .before .before .before .before .before .before .before .before .before .before .before .before .before .before .before .before .gate-of-rows .result) =
+    let same : c .before .before .before .before .before .before .before .before .before .before .before .before .before .before .before .before .before .before .before .before .before .before .gate-of-rows .result ≡ trialRow (a .job .w) (rowsOf (a .job .count) (a .atoms .now)) (trial (a .g) (a .b .0) (a .c .0)) =
+    c .before .before .before .before .before .before .before .before .before .before .before .before .before .before .before .before .before .before .before .before .before .before .gate-of-rows .ensures ∙ trial-row (a .g) (a .job .w) (a .job .count) (a .atoms .now) (a .b .0) (a .c .0) (s .pre .1) (s .pre .2) in
+    let held-same : (rows : List (List ℕ)) → holds rows (trialRow (a .job .w) (rowsOf (a .job .count) (a .atoms .now)) (trial (a .g) (a .b .0) (a .c .0))) ≡ holds rows (c .before .before .before .before .before .before .before .before .before .before .before .before .before .before .before .before .before .before .before .before .before .before .gate-of-rows .result) =
     λ rows. ap (holds rows) (sym same) in
     let miss = lookup-free (c .before .before .before .before .before .before .before .before .before .before .before .before .before .home .given .1) (c .before .before .before .before .before .before .before .before .before .before .before .before .before .before .before .find-pair .ensures) in
     let size = s .pre .0 .sized in
     let long : length (c .before .before .before .before .before .before .before .before .before .before .before .before .before .before .before .before .before .before .before .before .before .before .gate-of-rows .result) ≡ 16 =
-    ap length (c .before .before .before .before .before .before .before .before .before .before .before .before .before .before .before .before .before .before .before .before .before .before .gate-of-rows .ensures) ∙ gate-long (a .g) (a .job .w) (a .rows .now) (a .b .0) (a .c .0) (omega (arith, size .atoms, s .pre .1)) (omega (arith, size .atoms, s .pre .2)) in
-    ran-new (a .job) (a .rows .now) (trial (a .g) (a .b .0) (a .c .0)) (a .pairs .now) (a .listed .now) _ _ _ (a .n) _ same long (held-same _ ∙ sym (c .before .before .before .before .before .before .before .before .before .before .before .before .before .before .before .before .before .before .before .in-bank .ensures) ∙ c .before .before .before .before .before .before .before .before .before .before .before .before .before .before .before .before .before .before .if1 .left)
+    ap length (c .before .before .before .before .before .before .before .before .before .before .before .before .before .before .before .before .before .before .before .before .before .before .gate-of-rows .ensures) ∙ gate-long (a .g) (a .job .w) (a .atoms .now) (a .b .0) (a .c .0) (omega (arith, size .atoms, s .pre .1)) (omega (arith, size .atoms, s .pre .2)) in
+    ran-new (a .job) (a .atoms .now) (trial (a .g) (a .b .0) (a .c .0)) (a .pairs .now) (a .listed .now) _ _ _ (a .n) _ same long (held-same _ ∙ sym (c .before .before .before .before .before .before .before .before .before .before .before .before .before .before .before .before .before .before .before .in-bank .ensures) ∙ c .before .before .before .before .before .before .before .before .before .before .before .before .before .before .before .before .before .before .if1 .left)
     (held-same _ ∙ miss-holds miss) (c .before .before .before .before .before .before .before .before .before .before .if2 .left) (omega (arith, size .rows-fit, c .before .before .before .before .before .before .before .before .before .before .if2 .left)) (c .before .before .before .before .before .before .list-pair .ensures)
 
 pub try-pair-spec : {M : Type 1} → statement M

@@ -16,7 +16,7 @@ build-requires-2 c κs =
     let st = c .before .before .before .before .before .before .before .before .before .before .before .before .before .before .before .before .before .before .before .before .before .before .before .before .before .before .before .before .before .before .before .before .before in
     let s = st .args in
     let old = arrays (s .lengths .now) (s .ops .now) (s .operands .now) (s .costs .now) (s .rows .now) in
-    index-fits (s .nv) (s .w) (s .limit) (s .points) (s .target) old _ _ _ (st .pre .0 .0) (b .ensures) (s .work .now) (s .pairs .now) (s .listed .now) (s .slots .now) (st .pre .0 .1) (b .kept .1 .1 .1 .1 .1 .0) (st .pre .1)
+    index-fits (s .nv) (s .w) (s .limit) (s .points) (s .target) old _ _ _ (st .pre .0 .0) (b .ensures) (s .work .now) (s .pairs .now) (s .listed .now) (s .order .now) (st .pre .0 .1) (b .kept .1 .1 .1 .1 .1 .0) (st .pre .1)
 
 same-length : tie.Need-same-length
 same-length c = c .before .before .before .before .before .before .before .before .before .before .before .before .before .before .before .before .before .before .before .before .before .before .before .before .before .before .build .kept .0

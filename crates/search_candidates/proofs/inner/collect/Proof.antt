@@ -16,13 +16,13 @@ first-place-requires : tie.Need-first-place-requires Inv-loop μ-loop
 first-place-requires c κs =
     let s = c .before .before .before in
     let a = s .args in
-    (s .pre .0, no-samples (a .n) (a .listed .now) (a .slots .now) (a .listed .now), s .pre .1)
+    (s .pre .0, no-samples (a .n) (a .listed .now) (a .order .now) (a .listed .now), s .pre .1)
 
 loop-holds : tie.Need-loop-holds Inv-loop μ-loop
 loop-holds c =
     let s = c .before .before .before .before in
     let a = s .args in
-    filling-start (a .class) (a .n) (a .listed .now) (a .slots .now) (a .list .now) (s .pre .0 .order-fit) (s .pre .2) (c .first-place .result) (c .first-place .ensures)
+    filling-start (a .class) (a .n) (a .listed .now) (a .order .now) (a .list .now) (s .pre .0 .order-fit) (s .pre .2) (c .first-place .result) (c .first-place .ensures)
 
 mul-list : tie.Need-mul-list Inv-loop μ-loop
 mul-list c = search needs
@@ -59,7 +59,7 @@ next-from-requires c κs =
     let l = test .before .before .loop in
     let s = c .before .before .before .before .before .before .before .before in
     let a = s .args in
-    (s .pre .0, no-samples (a .n) (a .listed .now) (a .slots .now) (a .listed .now), s .pre .1, l .inv .sweeping, omega arith, omega (arith, test .if1 .taken))
+    (s .pre .0, no-samples (a .n) (a .listed .now) (a .order .now) (a .listed .now), s .pre .1, l .inv .sweeping, omega arith, omega (arith, test .if1 .taken))
 
 loop-less : tie.Need-loop-less Inv-loop μ-loop
 loop-less c = omega (arith, c .before .before .if1 .taken, c .next-from .ensures .from)
@@ -70,7 +70,7 @@ loop-again c =
     let l = test .before .before .loop in
     let s = c .before .before .before .before .before .before .before .before .before in
     let a = s .args in
-    filling-more (a .class) (a .n) (a .listed .now) (a .slots .now) (a .list .now) (s .pre .0 .order-fit) (s .pre .2) (l .list) (l .s) (l .k) (l .inv) (c .next-from .result) (test .if1 .taken) (c .next-from .ensures)
+    filling-more (a .class) (a .n) (a .listed .now) (a .order .now) (a .list .now) (s .pre .0 .order-fit) (s .pre .2) (l .list) (l .s) (l .k) (l .inv) (c .next-from .result) (test .if1 .taken) (c .next-from .ensures)
 
 same-length : tie.Need-same-length Inv-loop μ-loop
 same-length c = c .before .before .loop .inv .size
@@ -80,7 +80,7 @@ returns c =
     let l = c .before .before .loop in
     let s = c .before .before .before .before .before .before .before in
     let a = s .args in
-    filling-end (a .class) (a .n) (a .listed .now) (a .slots .now) (a .list .now) (s .pre .0 .order-fit) (s .pre .2) (l .list) (l .s) (l .k) (l .inv) (c .if1 .left)
+    filling-end (a .class) (a .n) (a .listed .now) (a .order .now) (a .list .now) (s .pre .0 .order-fit) (s .pre .2) (l .list) (l .s) (l .k) (l .inv) (c .if1 .left)
 
 pub collect-spec : {M : Type 1} → statement M
 collect-spec =

@@ -29,7 +29,7 @@ loop-holds c =
     let s = c .before .before .before .before .before .before in
     let a = s .args in
     let test = fitsAt (a .w) (a .target .now) (a .atoms .now) (a .a) (a .listed .now) in
-    (f .ensures .sweeping, sweep-start (a .n) (a .listed .now) (a .slots .now) (s .pre .0) (a .class) test (s .pre .3 .is) (f .result) (f .ensures))
+    (f .ensures .sweeping, sweep-start (a .n) (a .listed .now) (a .order .now) (s .pre .0) (a .class) test (s .pre .3 .is) (f .result) (f .ensures))
 
 walk-run-requires : tie.Need-walk-run-requires Inv-loop μ-loop
 walk-run-requires c κs =
@@ -53,8 +53,8 @@ returns c =
     let a = s .args in
     let test = fitsAt (a .w) (a .target .now) (a .atoms .now) (a .a) (a .listed .now) in
     sym
-    (first-skips test (a .n) (a .slots .now) (s .pre .0 .order-fit) (l .place .at) (r .result .at) (r .ensures .from) (r .ensures .to) (r .ensures .skips)
-    ∙ first-at test (a .n) (a .slots .now) (s .pre .0 .order-fit) (r .result .at) (hit .0) (hit .1))
+    (first-skips test (a .n) (a .order .now) (s .pre .0 .order-fit) (l .place .at) (r .result .at) (r .ensures .from) (r .ensures .to) (r .ensures .skips)
+    ∙ first-at test (a .n) (a .order .now) (s .pre .0 .order-fit) (r .result .at) (hit .0) (hit .1))
     ∙ l .inv .1
 
 next-from-requires : tie.Need-next-from-requires Inv-loop μ-loop
@@ -78,7 +78,7 @@ loop-again c =
     let a = s .args in
     let test = fitsAt (a .w) (a .target .now) (a .atoms .now) (a .a) (a .listed .now) in (
       f .ensures .sweeping,
-      sweep-next (a .n) (a .listed .now) (a .slots .now) (s .pre .0) (a .class) test (s .pre .3 .is) (l .place .at) (r .result .at) (f .result) (r .ensures .from) (r .ensures .skips) (f .ensures) ∙ l .inv .1,
+      sweep-next (a .n) (a .listed .now) (a .order .now) (s .pre .0) (a .class) test (s .pre .3 .is) (l .place .at) (r .result .at) (f .result) (r .ensures .from) (r .ensures .skips) (f .ensures) ∙ l .inv .1,
     )
 
 returns-2 : tie.Need-returns-2 Inv-loop μ-loop
@@ -87,7 +87,7 @@ returns-2 c =
     let s = c .before .before .before .before .before .before .before .before .before in
     let a = s .args in
     let test = fitsAt (a .w) (a .target .now) (a .atoms .now) (a .a) (a .listed .now) in
-    sym (first-end test (a .n) (a .slots .now) (s .pre .0 .order-fit) (l .place .at) (omega (arith, c .if1 .left))) ∙ l .inv .1
+    sym (first-end test (a .n) (a .order .now) (s .pre .0 .order-fit) (l .place .at) (omega (arith, c .if1 .left))) ∙ l .inv .1
 
 pub first-of-class-spec : {M : Type 1} → statement M
 first-of-class-spec =

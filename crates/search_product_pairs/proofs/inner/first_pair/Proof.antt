@@ -68,7 +68,7 @@ returns c =
     let test = fitsAt (a .w) (a .target .now) (a .atoms .now) (a .a) (a .listed .now) in
     let is-used = sym (u .is-used .ensures) ∙ c .before .before .before .before .before .if1 .taken in
     c .first-of-class .ensures
-    ∙ ap (firstThat test) (listed-is (a .n) (a .listed .now) (a .slots .now) (s .pre .0) ∙ sym (slots-used (a .w) (a .target .now) (a .atoms .now) (a .listed .now) (a .a) (s .pre .3) (r .reduce .result) (r .reduce .ensures) (a .n) is-used))
+    ∙ ap (firstThat test) (listed-is (a .n) (a .listed .now) (a .order .now) (s .pre .0) ∙ sym (slots-used (a .w) (a .target .now) (a .atoms .now) (a .listed .now) (a .a) (s .pre .3) (r .reduce .result) (r .reduce .ensures) (a .n) is-used))
 
 enum-told : tie.Need-enum-told
 enum-told c = search needs

@@ -23,8 +23,8 @@ abbrev μ-loop : tie.MeasureT-loop
 μ-loop atoms a listed slots n at target w first word p t k₀ k = n - k
 
 -- a listed slot is below n, so that its row is there
-below : (c : tie.Start Inv-loop μ-loop) (k : ℕ) → k < c .args .n → getD (c .args .slots .now) k 0 < c .args .n
-below c = let a = c .args in slot-below (a .n) (a .listed .now) (a .slots .now) (c .pre .0)
+below : (c : tie.Start Inv-loop μ-loop) (k : ℕ) → k < c .args .n → getD (c .args .order .now) k 0 < c .args .n
+below c = let a = c .args in slot-below (a .n) (a .listed .now) (a .order .now) (c .pre .0)
 
 mul-first : tie.Need-mul-first Inv-loop μ-loop
 mul-first c = search needs
@@ -71,7 +71,7 @@ loop-holds : tie.Need-loop-holds Inv-loop μ-loop
 loop-holds c =
     let s = c .before .before .before .before .before .before .before .before in
     let a = s .args in
-    (omega arith, omega (arith, s .pre .1), skips-none (fitsAt (a .w) (a .target .now) (a .atoms .now) (a .a) (a .listed .now)) (a .slots .now) (a .at))
+    (omega arith, omega (arith, s .pre .1), skips-none (fitsAt (a .w) (a .target .now) (a .atoms .now) (a .a) (a .listed .now)) (a .order .now) (a .at))
 
 mul-slot : tie.Need-mul-slot Inv-loop μ-loop
 mul-slot c = search needs
@@ -108,7 +108,7 @@ returns c =
       hit = λ e. absurd (true-not-false (sym e));
       past = λ _. elim (decLt (a .at) (l .k)) [
         | yes h ↦ h
-        | no h ↦ let q : l .k ≡ a .at = omega (arith, l .inv .0) in absurd (c .if1 .taken (ap (λ (i : ℕ). getD (a .listed .now) (16 * getD (a .slots .now) i 0) 0) q))
+        | no h ↦ let q : l .k ≡ a .at = omega (arith, l .inv .0) in absurd (c .if1 .taken (ap (λ (i : ℕ). getD (a .listed .now) (16 * getD (a .order .now) i 0) 0) q))
       ];
     }
 
@@ -164,12 +164,12 @@ loop-again c =
     let s = c .before .before .before .before .before .before .before .before .before .before .before .before .before .before .before .before in
     let a = s .args in
     let test = fitsAt (a .w) (a .target .now) (a .atoms .now) (a .a) (a .listed .now) in
-    let slot = getD (a .slots .now) (l .k) 0 in
+    let slot = getD (a .order .now) (l .k) 0 in
     let miss : test slot ≡ false = elim (c .if2 .came) [
       | inl y ↦ sym (y .1 .ensures) ∙ y .2 .left
       | inr n ↦ fits-not (a .w) (a .target .now) (a .atoms .now) (a .listed .now) (a .a) slot (s .pre .3) 1 (r .mod-mul .result) (omega arith) (r .mod-mul .ensures) (n .left)
     ] in
-    (omega (arith, l .inv .0), omega (arith, c .before .before .before .before .before .before .loop-test .taken), skips-more test (a .slots .now) (a .at) (l .k) (l .inv .2) miss)
+    (omega (arith, l .inv .0), omega (arith, c .before .before .before .before .before .before .loop-test .taken), skips-more test (a .order .now) (a .at) (l .k) (l .inv .2) miss)
 
 returns-3 : tie.Need-returns-3 Inv-loop μ-loop
 returns-3 c =
