@@ -72,67 +72,67 @@ pub struct TextReply {
 extern "C" {
     pub fn simjaldek_product_search(
         w: u32,
-        count: usize,
-        atoms: *const u64,
-        atoms_len: usize,
-        pairs: usize,
-        listed: *const u64,
-        listed_len: usize,
-        slots: *const u32,
-        slots_len: usize,
+        atom_count: usize,
+        atom_rows: *const u64,
+        atom_rows_len: usize,
+        pair_count: usize,
+        pair_rows: *const u64,
+        pair_rows_len: usize,
+        order: *const u32,
+        order_len: usize,
         target: *const u64,
         target_len: usize,
     ) -> Reply;
 
     pub fn simjaldek_find_row(
         w: u32,
-        count: usize,
-        rows: *const u64,
-        rows_len: usize,
+        atom_count: usize,
+        atom_rows: *const u64,
+        atom_rows_len: usize,
         row: *const u64,
         row_len: usize,
     ) -> Reply;
 
     pub fn simjaldek_build_index(
         w: u32,
-        count: usize,
-        rows: *const u64,
-        rows_len: usize,
+        atom_count: usize,
+        atom_rows: *const u64,
+        atom_rows_len: usize,
         limit: usize,
         pairs: *mut u32,
         pairs_len: usize,
-        listed: *mut u64,
-        listed_len: usize,
-        slots: *mut u32,
-        slots_len: usize,
+        pair_rows: *mut u64,
+        pair_rows_len: usize,
+        order: *mut u32,
+        order_len: usize,
         work: *mut u32,
         work_len: usize,
     ) -> Reply;
 
     pub fn simjaldek_collect_mul_probe0_candidates(
         w: u32,
-        pairs: usize,
-        listed: *const u64,
-        listed_len: usize,
-        slots: *const u32,
-        slots_len: usize,
+        pair_count: usize,
+        pair_rows: *const u64,
+        pair_rows_len: usize,
+        order: *const u32,
+        order_len: usize,
         p: u64,
         t: u64,
-        list: *mut u32,
-        list_len: usize,
+        candidates: *mut u32,
+        candidates_len: usize,
     ) -> Reply;
 
     pub fn simjaldek_build_bank(
-        lengths: *mut u32,
-        lengths_len: usize,
-        ops: *mut u8,
-        ops_len: usize,
-        operands: *mut u64,
-        operands_len: usize,
-        costs: *mut u32,
-        costs_len: usize,
-        rows: *mut u64,
-        rows_len: usize,
+        atom_lengths: *mut u32,
+        atom_lengths_len: usize,
+        atom_ops: *mut u8,
+        atom_ops_len: usize,
+        atom_operands: *mut u64,
+        atom_operands_len: usize,
+        atom_costs: *mut u32,
+        atom_costs_len: usize,
+        atom_rows: *mut u64,
+        atom_rows_len: usize,
         work: *mut u32,
         work_len: usize,
         nv: u32,
@@ -153,7 +153,7 @@ extern "C" {
 
     pub fn simjaldek_is_formula(
         nv: u32,
-        count: usize,
+        token_count: usize,
         ops: *const u8,
         ops_len: usize,
         operands: *const u64,
@@ -163,7 +163,7 @@ extern "C" {
     pub fn simjaldek_eval(
         nv: u32,
         w: u32,
-        count: usize,
+        token_count: usize,
         ops: *const u8,
         ops_len: usize,
         operands: *const u64,
@@ -174,7 +174,7 @@ extern "C" {
 
     pub fn simjaldek_compute_cost(
         nv: u32,
-        count: usize,
+        token_count: usize,
         ops: *const u8,
         ops_len: usize,
         operands: *const u64,
@@ -188,7 +188,7 @@ extern "C" {
         w: u32,
         points: *const u64,
         points_len: usize,
-        count: usize,
+        token_count: usize,
         ops: *const u8,
         ops_len: usize,
         operands: *const u64,
@@ -255,7 +255,12 @@ extern "C" {
         w: u32,
     ) -> Reply;
 
-    pub fn simjaldek_atom_row(rows: *const u64, rows_len: usize, count: usize, slot: u32) -> Reply;
+    pub fn simjaldek_atom_row(
+        atom_rows: *const u64,
+        atom_rows_len: usize,
+        atom_count: usize,
+        slot: u32,
+    ) -> Reply;
 
     pub fn simjaldek_write_listing(
         out: *mut u8,
