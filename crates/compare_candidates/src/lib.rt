@@ -46,7 +46,7 @@ fn rows_at(line: &[u64], n: usize) -> [u64; 3200]
 }
 
 // The n slots that stand from `base` on.
-fn slots_at(line: &[u64], base: usize, n: usize) -> [u32; 200]
+fn order_at(line: &[u64], base: usize, n: usize) -> [u32; 200]
     requires { ⌜ (n ≤ 200) × (base + n ≤ length (now line)) ⌝ }
 {
     let mut order = [OLD_HALF; PAIRS_MAX];
@@ -79,7 +79,7 @@ fn list_same(line: &[u64], n: usize, at: usize) -> bool
     requires { ⌜ (n ≤ 200) × (3 + n + n ≤ at) × (at + 4 ≤ length (now line)) ⌝ }
 {
     let rows = rows_at(line, n);
-    let order = slots_at(line, 3 + n, n);
+    let order = order_at(line, 3 + n, n);
     let mut candidates = [OLD_HALF; 250];
     let r = search_candidates::collect_mul_probe0_candidates(
         narrow(line[1]),

@@ -6,10 +6,10 @@ use Rattle.compare_candidates.proofs.list_is.Statement.{statement}
 use Rattle.compare_candidates.proofs.list_is.Tie as tie
 
 abbrev Inv-loop : tie.InvT-loop
-Inv-loop list line base i₀ i = base ≤ i
+Inv-loop candidates line base i₀ i = base ≤ i
 
 abbrev μ-loop : tie.MeasureT-loop
-μ-loop list line base i₀ i = length line - i
+μ-loop candidates line base i₀ i = length line - i
 
 loop-holds : tie.Need-loop-holds Inv-loop μ-loop
 loop-holds c = search needs

@@ -1,16 +1,16 @@
--- `compare_candidates::slots_at` is safe: the place stays below n, which is at most 200. Assumes nothing.
+-- `compare_candidates::order_at` is safe: the place stays below n, which is at most 200. Assumes nothing.
 use mathlib.Core.Path.{_≡_}
 use Prim.Native.Nat.{_-_, _≤_}
 use borrow.Author.Needs.{needs}
 use lib.ListN.{length}
-use Rattle.compare_candidates.proofs.slots_at.Statement.{statement}
-use Rattle.compare_candidates.proofs.slots_at.Tie as tie
+use Rattle.compare_candidates.proofs.order_at.Statement.{statement}
+use Rattle.compare_candidates.proofs.order_at.Tie as tie
 
 abbrev Inv-loop : tie.InvT-loop
-Inv-loop line base n slots₀ i₀ slots i = (i ≤ n) × (length slots ≡ 200)
+Inv-loop line base n order₀ i₀ order i = (i ≤ n) × (length order ≡ 200)
 
 abbrev μ-loop : tie.MeasureT-loop
-μ-loop line base n slots₀ i₀ slots i = n - i
+μ-loop line base n order₀ i₀ order i = n - i
 
 loop-holds : tie.Need-loop-holds Inv-loop μ-loop
 loop-holds c = search needs
@@ -27,11 +27,11 @@ shared-slice-read-narrow c = search needs
 narrow-requires : tie.Need-narrow-requires Inv-loop μ-loop
 narrow-requires c κs = search needs
 
-mul-slots : tie.Need-mul-slots Inv-loop μ-loop
-mul-slots c = search needs
+mul-order : tie.Need-mul-order Inv-loop μ-loop
+mul-order c = search needs
 
-array-write-slots : tie.Need-array-write-slots Inv-loop μ-loop
-array-write-slots c = search needs
+array-write-order : tie.Need-array-write-order Inv-loop μ-loop
+array-write-order c = search needs
 
 add-i : tie.Need-add-i Inv-loop μ-loop
 add-i c = search needs
@@ -45,8 +45,8 @@ loop-again c = search needs
 returns : tie.Need-returns Inv-loop μ-loop
 returns c = search needs
 
-pub slots-at-spec : {M : Type 1} → statement M
-slots-at-spec =
+pub order-at-spec : {M : Type 1} → statement M
+order-at-spec =
     tie.close
     (tie.spec
     Inv-loop
@@ -56,8 +56,8 @@ slots-at-spec =
     mul-narrow
     shared-slice-read-narrow
     narrow-requires
-    mul-slots
-    array-write-slots
+    mul-order
+    array-write-order
     add-i
     loop-less
     loop-again

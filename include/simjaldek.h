@@ -1,0 +1,269 @@
+/* The static library of Simjaldek, for C programs; docs/CALLS.md says what each call needs, refuses and answers.
+   Made from the exports of crates/simjaldek and crates/simjaldek_abi by rust/simjaldek/tests/header.rs.
+
+   An array goes as its first element's address and its length. An array that is written must not overlap another.
+   `refusal`, where a reply has it, is 0 or a number of docs/SPECIFICATION.md's table; then no array was written, and the
+   rest of the reply is zeros. */
+#ifndef SIMJALDEK_H
+#define SIMJALDEK_H
+
+#include <stddef.h>
+#include <stdint.h>
+
+#ifdef __cplusplus
+extern "C" {
+#endif
+
+/* An answer by numbers; all zeros beside a refusal. */
+struct simjaldek_reply {
+    uint32_t refusal;
+    uint32_t kind;
+    uint32_t a;
+    uint32_t b;
+};
+
+/* A word; 0 beside a refusal. */
+struct simjaldek_word_reply {
+    uint32_t refusal;
+    uint64_t word;
+};
+
+/* A cost; zeros beside a refusal. */
+struct simjaldek_cost_reply {
+    uint32_t refusal;
+    uint32_t size;
+    uint32_t products;
+    uint32_t depth;
+};
+
+/* A row; zeros beside a refusal. */
+struct simjaldek_row_reply {
+    uint32_t refusal;
+    uint64_t row[16];
+};
+
+/* A point's six words. */
+struct simjaldek_point_words {
+    uint64_t words[6];
+};
+
+/* Sixteen points; zeros beside a refusal. */
+struct simjaldek_points_reply {
+    uint32_t refusal;
+    struct simjaldek_point_words points[16];
+};
+
+/* A state of splitmix64, and the word that it gave. */
+struct simjaldek_draw_reply {
+    uint64_t state;
+    uint64_t word;
+};
+
+/* A token: its opcode, 255 for what is none, and its operand. */
+struct simjaldek_token_reply {
+    uint32_t opcode;
+    uint64_t operand;
+};
+
+/* The length of a text; 0 beside a refusal. */
+struct simjaldek_text_reply {
+    uint32_t refusal;
+    size_t length;
+};
+
+/* `search_product::product_search`: kind 0 nothing, 1 the atoms a and b, 2 the atom a and the pair b. Refuses 2, 4, 5, 7, 8. */
+struct simjaldek_reply simjaldek_product_search(
+    uint32_t w,
+    size_t atom_count,
+    const uint64_t *atom_rows, size_t atom_rows_len,
+    size_t pair_count,
+    const uint64_t *pair_rows, size_t pair_rows_len,
+    const uint32_t *order, size_t order_len,
+    const uint64_t *target, size_t target_len);
+
+/* `bank_lookup::find_row`: kind 1 the slot a, 0 none. Refuses 2, 4, 5, 7. */
+struct simjaldek_reply simjaldek_find_row(
+    uint32_t w,
+    size_t atom_count,
+    const uint64_t *atom_rows, size_t atom_rows_len,
+    const uint64_t *row, size_t row_len);
+
+/* `index::build_index`: a pairs, and b 1 where the build was cut. Refuses 2, 3, 4, 7. */
+struct simjaldek_reply simjaldek_build_index(
+    uint32_t w,
+    size_t atom_count,
+    const uint64_t *atom_rows, size_t atom_rows_len,
+    size_t limit,
+    uint32_t *pairs, size_t pairs_len,
+    uint64_t *pair_rows, size_t pair_rows_len,
+    uint32_t *order, size_t order_len,
+    uint32_t *work, size_t work_len);
+
+/* `search_candidates::collect_mul_probe0_candidates`: kind 1 with a candidates in the list, 0 "not used". Refuses 2, 4, 5, 7, 8. */
+struct simjaldek_reply simjaldek_collect_mul_probe0_candidates(
+    uint32_t w,
+    size_t pair_count,
+    const uint64_t *pair_rows, size_t pair_rows_len,
+    const uint32_t *order, size_t order_len,
+    uint64_t p,
+    uint64_t t,
+    uint32_t *candidates, size_t candidates_len);
+
+/* `bank::build_bank`, with sixteen points of six words each: a atoms. Refuses 1, 2, 4, 5. */
+struct simjaldek_reply simjaldek_build_bank(
+    uint32_t *atom_lengths, size_t atom_lengths_len,
+    uint8_t *atom_ops, size_t atom_ops_len,
+    uint64_t *atom_operands, size_t atom_operands_len,
+    uint32_t *atom_costs, size_t atom_costs_len,
+    uint64_t *atom_rows, size_t atom_rows_len,
+    uint32_t *work, size_t work_len,
+    uint32_t nv,
+    uint32_t w,
+    const uint64_t *points, size_t points_len,
+    const uint64_t *target, size_t target_len);
+
+/* `expr::token_at`: the token's opcode, 255 for none, and its operand. */
+struct simjaldek_token_reply simjaldek_token_at(
+    const uint8_t *ops, size_t ops_len,
+    const uint64_t *operands, size_t operands_len,
+    size_t at);
+
+/* `expr::is_formula`: 1 where it is one, else 0. */
+uint32_t simjaldek_is_formula(
+    uint32_t nv,
+    size_t token_count,
+    const uint8_t *ops, size_t ops_len,
+    const uint64_t *operands, size_t operands_len);
+
+/* `expr_eval::eval`. Refuses 1, 2, 4, 6. */
+struct simjaldek_word_reply simjaldek_eval(
+    uint32_t nv,
+    uint32_t w,
+    size_t token_count,
+    const uint8_t *ops, size_t ops_len,
+    const uint64_t *operands, size_t operands_len,
+    const uint64_t *words, size_t words_len);
+
+/* `expr_cost::compute_cost`. Refuses 1, 4, 6. */
+struct simjaldek_cost_reply simjaldek_compute_cost(
+    uint32_t nv,
+    size_t token_count,
+    const uint8_t *ops, size_t ops_len,
+    const uint64_t *operands, size_t operands_len);
+
+/* `probe_points::make_probe_points`. Refuses 1, 2. */
+struct simjaldek_points_reply simjaldek_make_probe_points(
+    uint32_t nv,
+    uint32_t w);
+
+/* `probe::probe`, with sixteen points of six words each. Refuses 1, 2, 4, 6. */
+struct simjaldek_row_reply simjaldek_probe(
+    uint32_t nv,
+    uint32_t w,
+    const uint64_t *points, size_t points_len,
+    size_t token_count,
+    const uint8_t *ops, size_t ops_len,
+    const uint64_t *operands, size_t operands_len);
+
+/* `row_fingerprint::fingerprint`. Refuses 4. */
+struct simjaldek_word_reply simjaldek_fingerprint(
+    const uint64_t *row, size_t row_len);
+
+/* `arith::bitmask`. */
+uint64_t simjaldek_bitmask(
+    uint32_t w);
+
+/* `arith::reduce`. */
+uint64_t simjaldek_reduce(
+    uint64_t x,
+    uint32_t w);
+
+/* `arith::wrapping_mul`. */
+uint64_t simjaldek_wrapping_mul(
+    uint64_t a,
+    uint64_t b);
+
+/* `arith::mod_add`. */
+uint64_t simjaldek_mod_add(
+    uint64_t a,
+    uint64_t b,
+    uint32_t w);
+
+/* `arith::mod_sub`. */
+uint64_t simjaldek_mod_sub(
+    uint64_t a,
+    uint64_t b,
+    uint32_t w);
+
+/* `arith::mod_mul`. */
+uint64_t simjaldek_mod_mul(
+    uint64_t a,
+    uint64_t b,
+    uint32_t w);
+
+/* `arith::mod_not`. */
+uint64_t simjaldek_mod_not(
+    uint64_t v,
+    uint32_t w);
+
+/* `arith::mod_neg`. */
+uint64_t simjaldek_mod_neg(
+    uint64_t v,
+    uint32_t w);
+
+/* `arith::mod_inverse_odd`. */
+uint64_t simjaldek_mod_inverse_odd(
+    uint64_t m,
+    uint32_t k);
+
+/* `probe_points::splitmix64`. */
+struct simjaldek_draw_reply simjaldek_splitmix64(
+    uint64_t state);
+
+/* `Cost::is_better` of two costs by their numbers: 1 where the first is better, else 0. */
+uint32_t simjaldek_is_better(
+    uint32_t size,
+    uint32_t products,
+    uint32_t depth,
+    uint32_t size2,
+    uint32_t products2,
+    uint32_t depth2);
+
+/* `row_gates::gate_apply`, with the gate's number. Refuses 2, 4, and 6 for a number above 4. */
+struct simjaldek_row_reply simjaldek_gate_apply(
+    const uint64_t *a, size_t a_len,
+    const uint64_t *b, size_t b_len,
+    uint32_t g,
+    uint32_t w);
+
+/* `row_gates::gate_residual`, with the gate's number. Refuses 2, 4, and 6 for a number above 4. */
+struct simjaldek_row_reply simjaldek_gate_residual(
+    const uint64_t *target, size_t target_len,
+    const uint64_t *a, size_t a_len,
+    uint32_t g,
+    uint32_t w);
+
+/* `row_gates::gate_matches`, with the gate's number: kind 1 the same, 0 different. Refuses 2, 4, and 6 for a number above 4. */
+struct simjaldek_reply simjaldek_gate_matches(
+    const uint64_t *a, size_t a_len,
+    const uint64_t *b, size_t b_len,
+    const uint64_t *target, size_t target_len,
+    uint32_t g,
+    uint32_t w);
+
+/* Where `bank_lookup::atom_row` begins: the place in words of the first of the slot's sixteen. Refuses 4, 7. */
+struct simjaldek_reply simjaldek_atom_row(
+    const uint64_t *atom_rows, size_t atom_rows_len,
+    size_t atom_count,
+    uint32_t slot);
+
+/* `listing::write_listing` of a whole text: the length of what the listing program writes, which stands in the buffer. Refuses 4. */
+struct simjaldek_text_reply simjaldek_write_listing(
+    uint8_t *out, size_t out_len,
+    const uint8_t *text, size_t text_len);
+
+#ifdef __cplusplus
+}
+#endif
+
+#endif
