@@ -21,7 +21,7 @@ fn words_are(s: &[u64], n: usize, digest: u64) -> bool {
     compare_lines::words_kept(s, n)
 }
 
-// Whether the index of `count` rows, of at most 500 pairs, is the one that stands from `at` on.
+// Whether the index of `atom_count` rows, of at most 500 pairs, is the one that stands from `at` on.
 pub fn index_is(line: &[u64], at: usize, atom_count: usize, atom_rows: &[u64]) -> bool
     requires { ⌜ at + 7 ≤ length (now line) ⌝ }
 {

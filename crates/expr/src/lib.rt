@@ -79,7 +79,7 @@ fn takes(t: Token) -> usize
     }
 }
 
-// Whether the first `count` tokens are a formula over nv variables: 1 to 64 of them, all known, no operand missing, one value left.
+// Whether the first `token_count` tokens are a formula over nv variables: 1 to 64 of them, all known, no operand missing, one value left.
 pub fn is_formula(nv: u32, token_count: usize, ops: &[u8], operands: &[u64]) -> bool
     ensures { λ r. ⌜ r ≡ isFormula nv (tokens «token_count» (now (ops .entry)) (now (operands .entry))) ⌝ }
 {

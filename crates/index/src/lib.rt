@@ -9,7 +9,7 @@ pub enum IndexAnswer {
     Refused(u32),
 }
 
-// Lists the pairs of the first `count` lent rows, at most `limit`, with their rows and the order list. What `work` holds doesn't matter.
+// Lists the pairs of the first `atom_count` lent rows, at most `limit`, with their rows and the order list. What `work` holds doesn't matter.
 // Refuses 2, 3, 4, 7.
 pub fn build_index(
     w: u32,
