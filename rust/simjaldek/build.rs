@@ -1,12 +1,16 @@
 //! Links the static library `libsimjaldek.a`.
 //!
 //! `SIMJALDEK_LIB_DIR` names, by its full path, a folder that holds a ready archive. Without it `rt staticlib simjaldek` runs at
-//! the repository's root, which proves what has changed since it was last proved, and the archive that it names is linked.
+//! the repository's root, which proves what has changed since it was last proved, and the archive that it names is linked. Cargo is
+//! silent while it runs, so what takes long is told past it.
 
 use std::env;
-use std::fs;
+use std::fs::{self, OpenOptions};
+use std::io::{IsTerminal, Write};
+use std::os::unix::process::parent_id;
 use std::path::{Path, PathBuf};
 use std::process::Command;
+use std::time::Instant;
 
 /// The archive's file name.
 const ARCHIVE: &str = "libsimjaldek.a";
@@ -37,6 +41,11 @@ fn made_archive() -> PathBuf {
     for source in ["crates", "crates.txt"] {
         println!("cargo:rerun-if-changed={}", root.join(source).display());
     }
+    tell(
+        "rt staticlib simjaldek proves the crates first: from nothing some 6 minutes on two cores, \
+         seconds where proofs are kept; cargo is silent meanwhile",
+    );
+    let start = Instant::now();
     let output = Command::new("rt")
         .args(["staticlib", "simjaldek"])
         .current_dir(&root)
@@ -44,6 +53,8 @@ fn made_archive() -> PathBuf {
         .unwrap_or_else(|error| {
             panic!("rt, the Rattle kit's command: {error}; or set SIMJALDEK_LIB_DIR to the folder of a ready {ARCHIVE}")
         });
+    let seconds = start.elapsed().as_secs_f32();
+    tell(&format!("rt staticlib simjaldek took {seconds:.1} seconds"));
     let said = [output.stdout, output.stderr].concat();
     let said = String::from_utf8_lossy(&said);
     assert!(
@@ -52,6 +63,35 @@ fn made_archive() -> PathBuf {
     );
     let named = said.split_whitespace().find(|word| word.ends_with(ARCHIVE));
     root.join(named.unwrap_or_else(|| panic!("rt staticlib simjaldek names no archive:\n{said}")))
+}
+
+/// Writes a line to cargo's own standard error, since cargo keeps what a build script writes to its own. Does nothing where it can't.
+fn tell(line: &str) {
+    let cargo = Path::new("/proc").join(parent_id().to_string());
+    let place = cargo.join("fd/2");
+    if overwrites(&cargo, &place) {
+        return;
+    }
+    if let Ok(mut file) = OpenOptions::new().append(true).open(place) {
+        // On a terminal cargo's progress bar may stand in this line. In one write, so that nothing of cargo's comes between.
+        let clear = if file.is_terminal() { "\r\x1b[K" } else { "" };
+        let _ = file.write_all(format!("{clear}simjaldek: {line}\n").as_bytes());
+    }
+}
+
+/// Whether cargo writes to a file at a place of its own, where it would write over a line that is appended.
+fn overwrites(cargo: &Path, place: &Path) -> bool {
+    let is_file = fs::metadata(place).is_ok_and(|metadata| metadata.is_file());
+    is_file && !appends(cargo).unwrap_or(false)
+}
+
+/// Whether cargo's standard error was opened for appending, by the flags that Linux tells in octal.
+fn appends(cargo: &Path) -> Option<bool> {
+    const O_APPEND: u32 = 0o2000;
+    let told = fs::read_to_string(cargo.join("fdinfo/2")).ok()?;
+    let flags = told.lines().find_map(|line| line.strip_prefix("flags:"))?;
+    let flags = u32::from_str_radix(flags.trim(), 8).ok()?;
+    Some(flags & O_APPEND != 0)
 }
 
 /// Tells cargo to link a copy of the archive, since `rt ci` removes the folder that `rt` writes to.

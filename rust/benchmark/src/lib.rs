@@ -9,6 +9,7 @@ mod formulas;
 pub mod measure;
 mod searches;
 mod setting;
+pub mod stack;
 pub mod table;
 
 use measure::{Plan, Times};

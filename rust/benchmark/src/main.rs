@@ -1,26 +1,37 @@
-//! `benchmark`: the tables of docs/BENCHMARKS.md. `benchmark quick`: the same with fewer variables and batches.
+//! `benchmark`: the tables of docs/BENCHMARKS.md. `benchmark quick`: the same with fewer variables and batches. `benchmark stack`: the
+//! stack that each exported call needs.
 
 use std::env;
 use std::process::ExitCode;
 
 use benchmark::measure::Plan;
-use benchmark::{table, time_setting, Line, Setting, VARIABLE_COUNTS, WIDTHS};
+use benchmark::{stack, table, time_setting, Line, Setting, VARIABLE_COUNTS, WIDTHS};
 
 /// The variable counts of a short run: the first so many.
 const QUICK_COUNTS: usize = 3;
 
 fn main() -> ExitCode {
     let arguments: Vec<String> = env::args().skip(1).collect();
-    let lines = match arguments.iter().map(String::as_str).collect::<Vec<_>>()[..] {
-        [] => run(&Plan::full(), &VARIABLE_COUNTS),
-        ["quick"] => run(&Plan::quick(), &VARIABLE_COUNTS[..QUICK_COUNTS]),
-        _ => {
-            eprintln!("usage: benchmark [quick]");
-            return ExitCode::from(2);
-        }
+    let text = match arguments.iter().map(String::as_str).collect::<Vec<_>>()[..] {
+        [] => table::markdown(&run(&Plan::full(), &VARIABLE_COUNTS)),
+        ["quick"] => table::markdown(&run(&Plan::quick(), &VARIABLE_COUNTS[..QUICK_COUNTS])),
+        ["stack"] => stack::markdown().expect("this program runs itself"),
+        [stack::CHILD, name, size] => return stack_child(name, size).unwrap_or_else(usage),
+        _ => return usage(),
     };
-    print!("{}", table::markdown(&lines));
+    print!("{text}");
     ExitCode::SUCCESS
+}
+
+fn usage() -> ExitCode {
+    eprintln!("usage: benchmark [quick|stack]");
+    ExitCode::from(2)
+}
+
+/// One call with a stack of so many bytes; it crashes where they are too few.
+fn stack_child(name: &str, size: &str) -> Option<ExitCode> {
+    let ran = stack::child(name, size.parse().ok()?).ok()?;
+    ran.then_some(ExitCode::SUCCESS)
 }
 
 /// The lines of every variable count and width.

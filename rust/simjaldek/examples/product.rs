@@ -1,62 +1,90 @@
-//! Looks for a product with the row of a formula, given in postfix: `cargo run -p simjaldek --example product -- 'v0 v0 * v0 v1 * +'`.
+//! Looks for a product with the row of a formula: `cargo run -p simjaldek --example product -- 2 32 'v0 v0 * v0 v1 * +'`.
 
-use simjaldek::{
-    compute_cost, probe_points, probe_row, product_search, AtomSlot, Bank, Formula, FormulaBuf,
-    Index, Product, Token, PAIRS_MAX,
-};
+use simjaldek::{Bank, Index, Points, ProductAnswer, Reading, PAIRS_MAX};
 use std::env;
 use std::error::Error;
+use std::fmt::Write;
 use std::process::ExitCode;
 
-const NUM_VARS: u32 = 2;
-const WIDTH: u32 = 32;
+/// What is told with every refusal.
+pub const USAGE: &str = "usage: product VARIABLES WIDTH FORMULA
+VARIABLES 1 to 6, WIDTH 1 to 64, FORMULA one argument in postfix: product 2 32 'v0 v0 * v0 v1 * +'";
+
+/// What a product may be believed to be.
+const BELIEVE: &str = "Both have the same values at the sixteen points. Elsewhere is unknown: compare them there before one takes the other's place.";
 
 fn main() -> ExitCode {
-    let text = env::args().nth(1);
-    match run(text.as_deref().unwrap_or("v0 v0 * v0 v1 * +")) {
-        Ok(()) => ExitCode::SUCCESS,
+    let arguments: Vec<String> = env::args().skip(1).collect();
+    match run(&arguments) {
+        Ok(text) => {
+            print!("{text}");
+            ExitCode::SUCCESS
+        }
         Err(error) => {
-            eprintln!("{error}");
+            eprintln!("{error}\n{USAGE}");
             ExitCode::FAILURE
         }
     }
 }
 
-/// Prints the sizes of bank and index, the formula, and the product that was found.
-fn run(text: &str) -> Result<(), Box<dyn Error>> {
-    let long: FormulaBuf = text.parse()?;
-    let points = probe_points(NUM_VARS, WIDTH)?;
-    let target = probe_row(NUM_VARS, WIDTH, &points, long.as_formula())?;
-    let bank = Bank::build(NUM_VARS, WIDTH, &points, &target)?;
-    let index = Index::build(&bank, WIDTH, PAIRS_MAX)?;
-    let mark = if index.is_cut() { "cut" } else { "whole" };
-    println!("atoms {} pairs {} {mark}", bank.len(), index.len());
-    println!(
-        "{long}: cost {}",
-        compute_cost(NUM_VARS, long.as_formula())?
-    );
-    let product = product_search(&bank, &index, WIDTH, &target)?;
-    let Some(found) = postfix(&bank, &index, product) else {
-        println!("no product");
-        return Ok(());
+/// What the program prints.
+pub fn run(arguments: &[String]) -> Result<String, Box<dyn Error>> {
+    let [variables, width, text] = arguments else {
+        return Err(format!("{} arguments where three are wanted", arguments.len()).into());
     };
-    let row = probe_row(NUM_VARS, WIDTH, &points, found.as_formula())?;
-    assert_eq!(row, target);
-    let cost = compute_cost(NUM_VARS, found.as_formula())?;
-    println!("{found}: cost {cost}, the same row");
-    Ok(())
+    let points = Points::standard(number("VARIABLES", variables)?, number("WIDTH", width)?)?;
+    told(&points, &points.read(text)?)
 }
 
-/// The product written out; none for [`Product::Nothing`].
-fn postfix(bank: &Bank, index: &Index, product: Product) -> Option<FormulaBuf> {
-    let atom = |slot: AtomSlot| bank.formula(slot).map(Formula::tokens);
-    match product {
-        Product::Atoms(a, b) => Some(atom(a)?.chain(atom(b)?).chain([Token::Mul]).collect()),
-        Product::AtomPair(a, pair) => {
-            let (gate, b, c) = index.pair(pair)?;
-            let operands = atom(a)?.chain(atom(b)?).chain(atom(c)?);
-            Some(operands.chain([gate.token(), Token::Mul]).collect())
+/// An argument as a number.
+fn number(name: &str, text: &str) -> Result<u32, String> {
+    text.parse()
+        .map_err(|_| format!("{name} is no number: {text}"))
+}
+
+/// The formula, the constants that are cut off, the sizes of bank and index, and the product or nothing.
+fn told(points: &Points, read: &Reading) -> Result<String, Box<dyn Error>> {
+    let formula = read.formula.as_formula();
+    let cost = points.compute_cost(formula)?;
+    let mut text = format!("formula {formula}\ncost {cost} (size, products, depth)\n");
+    for cut in &read.cut {
+        writeln!(text, "note: {cut}")?;
+    }
+    let bank = Bank::build_for(points, formula)?;
+    let index = Index::build(&bank, PAIRS_MAX)?;
+    let mark = if index.is_cut() { "cut" } else { "whole" };
+    writeln!(
+        text,
+        "bank {} atoms, index {} pairs, {mark}",
+        bank.len(),
+        index.len()
+    )?;
+    let answer = index.product_for(formula)?;
+    let Some(product) = answer.postfix() else {
+        writeln!(text, "{}", nothing(answer))?;
+        return Ok(text);
+    };
+    let product_cost = points.compute_cost(product.as_formula())?;
+    let better = if product_cost.is_better(cost) {
+        "better than the formula's"
+    } else {
+        "not better than the formula's"
+    };
+    writeln!(
+        text,
+        "product {product}\ncost {product_cost}, {better}\n{BELIEVE}"
+    )?;
+    Ok(text)
+}
+
+/// How certain it is that there is no product.
+fn nothing(answer: ProductAnswer<'_>) -> &'static str {
+    match answer {
+        ProductAnswer::Nothing { certain: true } => {
+            "nothing, for certain: no a × b and no a × (b g c) of the bank's atoms has the formula's values at the sixteen points. Other forms were not tried."
         }
-        Product::Nothing => None,
+        _ => {
+            "nothing found, and not certain: the index is cut, so not every a × (b g c) of the bank's atoms was tried. No a × b has the formula's values at the sixteen points."
+        }
     }
 }

@@ -1,5 +1,7 @@
 //! Formulas in postfix: opcodes and operands in two arrays of one length, read as tokens.
 
+use crate::lent::{reduce, Tokens};
+use crate::parse::{is_decimal, ParseFormulaError, ParseTokenError};
 use std::fmt;
 use std::str::FromStr;
 
@@ -68,6 +70,15 @@ impl Token {
             Token::Bad(opcode, operand) => (opcode, operand),
         }
     }
+
+    /// How many of the values before it the token takes; it leaves one.
+    pub(crate) fn values_taken(self) -> usize {
+        match self {
+            Token::Constant(_) | Token::Variable(_) | Token::Bad(..) => 0,
+            Token::Not | Token::Neg => 1,
+            Token::Add | Token::Mul | Token::And | Token::Or | Token::Xor => 2,
+        }
+    }
 }
 
 /// As in the listing: `c` and a word, `v` and a number, `+ * & | ^ ! -`; `?` for what is no token.
@@ -84,34 +95,54 @@ impl fmt::Display for Token {
     }
 }
 
-/// A word that is no token of the listing.
-#[derive(Clone, Debug, PartialEq, Eq)]
-pub struct ParseTokenError(String);
-
-impl fmt::Display for ParseTokenError {
-    fn fmt(&self, f: &mut fmt::Formatter<'_>) -> fmt::Result {
-        write!(f, "no token: {}", self.0)
-    }
-}
-
-impl std::error::Error for ParseTokenError {}
-
-/// Reads what `Display` writes, except `?`.
+/// Reads what `Display` writes, except `?`; a number may begin with zeros.
 impl FromStr for Token {
     type Err = ParseTokenError;
 
-    fn from_str(text: &str) -> Result<Self, ParseTokenError> {
-        let number = |digits: &str| digits.parse().map_err(|_| ParseTokenError(text.to_owned()));
-        if let Some(digits) = text.strip_prefix('c') {
-            return number(digits).map(Token::Constant);
-        }
-        if let Some(digits) = text.strip_prefix('v') {
-            return number(digits).map(Token::Variable);
-        }
-        let plain = PLAIN.iter().find(|plain| plain.2 == text);
+    fn from_str(word: &str) -> Result<Self, ParseTokenError> {
+        let plain = PLAIN.iter().find(|plain| plain.2 == word);
+        let constant = || number_after('c', word).map(Token::Constant);
+        let variable = || number_after('v', word).map(Token::Variable);
         plain
             .map(|plain| plain.0)
-            .ok_or_else(|| ParseTokenError(text.to_owned()))
+            .or_else(constant)
+            .or_else(variable)
+            .ok_or_else(|| ParseTokenError::new(word))
+    }
+}
+
+/// The number below 2^64 that stands after the letter in decimal digits.
+fn number_after(letter: char, word: &str) -> Option<u64> {
+    let digits = word.strip_prefix(letter)?;
+    // `parse` takes a sign too
+    is_decimal(digits).then(|| digits.parse().ok())?
+}
+
+/// A constant of a formula that isn't below 2^w: its word modulo 2^w counts.
+#[derive(Clone, Copy, Debug, PartialEq, Eq, Hash)]
+pub struct CutConstant {
+    /// Its place among the tokens, from 1.
+    pub place: usize,
+    /// The word as it stands there.
+    pub word: u64,
+    /// The word that counts.
+    pub counts_as: u64,
+    /// The width.
+    pub width: u32,
+}
+
+impl fmt::Display for CutConstant {
+    fn fmt(&self, f: &mut fmt::Formatter<'_>) -> fmt::Result {
+        let CutConstant {
+            place,
+            word,
+            counts_as,
+            width,
+        } = self;
+        write!(
+            f,
+            "c{word} at token {place} counts as c{counts_as} at width {width}"
+        )
     }
 }
 
@@ -153,6 +184,35 @@ impl<'a> Formula<'a> {
         let parts = self.ops.iter().zip(self.operands);
         parts.map(|(&opcode, &operand)| Token::of(opcode, operand))
     }
+
+    /// The tokens as the lent calls take them.
+    pub fn lend(self) -> Tokens<'a> {
+        Tokens {
+            count: self.len(),
+            ops: self.ops,
+            operands: self.operands,
+        }
+    }
+
+    /// The constants that the width cuts off, from left to right; none from 64 bits up.
+    pub fn cut_constants(self, width: u32) -> impl Iterator<Item = CutConstant> + 'a {
+        let places = (1..).zip(self.tokens());
+        places.filter_map(move |(place, token)| cut_constant(place, token, width))
+    }
+}
+
+/// The token, if it is a constant that the width cuts off.
+fn cut_constant(place: usize, token: Token, width: u32) -> Option<CutConstant> {
+    let Token::Constant(word) = token else {
+        return None;
+    };
+    let counts_as = reduce(word, width);
+    (counts_as != word).then_some(CutConstant {
+        place,
+        word,
+        counts_as,
+        width,
+    })
 }
 
 /// The tokens with blanks between, as in the listing.
@@ -168,7 +228,8 @@ impl fmt::Display for Formula<'_> {
     }
 }
 
-/// An owned formula, gathered from tokens or read from the listing's text.
+/// An owned formula, gathered from tokens or read from the listing's text. [`Points::read`](crate::Points::read) also tests what it
+/// reads.
 #[derive(Clone, Debug, Default, PartialEq, Eq)]
 pub struct FormulaBuf {
     ops: Vec<u8>,
@@ -193,10 +254,15 @@ impl FromIterator<Token> for FormulaBuf {
 }
 
 impl FromStr for FormulaBuf {
-    type Err = ParseTokenError;
+    type Err = ParseFormulaError;
 
-    fn from_str(text: &str) -> Result<Self, ParseTokenError> {
-        text.split_whitespace().map(str::parse::<Token>).collect()
+    fn from_str(text: &str) -> Result<Self, ParseFormulaError> {
+        let words = (1..).zip(text.split_whitespace());
+        let token = |(place, word): (usize, &str)| {
+            word.parse::<Token>()
+                .map_err(|error| ParseFormulaError::new(place, error))
+        };
+        words.map(token).collect()
     }
 }
 

@@ -1,63 +1,84 @@
-//! Safe calls into Simjaldek: a bank of small formulas, an index of rows made from two of them by a gate, and a search for
-//! products. Each call goes to a function of the static library `libsimjaldek.a` that is proved, for all inputs, to give the answer
-//! or the [`Refusal`] that the specification has; README.md of the repository names the promise of each. What is not proved is this
-//! crate: that its declarations fit the library, and what it does with an answer.
-//!
-//! [`Bank`] and [`Index`] own their arrays; [`lent`] has the same calls over a caller's own.
+//! **What an answer means.** A row says what a formula does at sixteen points, and no more. So a product that is found has the
+//! formula's values at the sixteen points, and may differ from it elsewhere: at width 16 with three variables
+//! `v0 v1 & v2 & c2 &` is 0 at all of them, the search rightly answers `c0 c0 *`, and with all bits set in each variable the formula
+//! is 2. Comparing the two beyond the points, as cobra does with samples, is for the layer above, before one takes the other's place.
+//! "Nothing" is about the forms that were searched, a × b and a × (b g c) with a, b, c atoms of this bank and g a gate, and certain
+//! only where the index is whole: with six variables it is whole without seeds, and with a few of them cut at 262,144 pairs.
 //!
 //! ```
-//! use simjaldek::{probe_points, probe_row, product_search, Bank, FormulaBuf, Index, Product};
+//! use simjaldek::{Bank, Index, Points, PAIRS_MAX};
 //!
-//! # fn main() -> Result<(), Box<dyn std::error::Error>> {
-//! let (num_vars, width) = (2, 32);
-//! let points = probe_points(num_vars, width)?;
-//! let long: FormulaBuf = "v0 v0 * v0 v1 * +".parse()?;
-//! let target = probe_row(num_vars, width, &points, long.as_formula())?;
-//! let bank = Bank::build(num_vars, width, &points, &target)?;
-//! let index = Index::build(&bank, width, 1000)?;
-//! let Product::Atoms(a, b) = product_search(&bank, &index, width, &target)? else {
+//! let points = Points::standard(3, 16)?;
+//! let mask = points.read("v0 v1 & v2 & c2 &")?.formula;
+//! assert_eq!(points.row(mask.as_formula())?, [0; 16]);
+//! let bank = Bank::build_for(&points, mask.as_formula())?;
+//! let index = Index::build(&bank, PAIRS_MAX)?;
+//! let product = index.product_for(mask.as_formula())?.postfix().expect("zero is a product");
+//! assert_eq!(product.to_string(), "c0 c0 *");
+//! let elsewhere = [0xFFFF; 3];
+//! assert_eq!(points.evaluate(mask.as_formula(), &elsewhere)?, 2);
+//! assert_eq!(points.evaluate(product.as_formula(), &elsewhere)?, 0);
+//! # Ok::<(), Box<dyn std::error::Error>>(())
+//! ```
+//!
+//! This crate has safe calls into Simjaldek: a bank of small formulas, an index of rows made from two of them by a gate, and a search
+//! for products. Each call goes to a function of the static library `libsimjaldek.a` that is proved, for all inputs, to give the
+//! answer or the [`Refusal`] that the specification has; README.md of the repository names the promise of each. What is not proved is
+//! this crate: that its declarations fit the library, and what it does with an answer.
+//!
+//! [`Points`] are told the variable count and the width, once; a [`Bank`] keeps its points, an [`Index`] its bank, an [`Atom`] its
+//! bank and a [`Pair`] its index, so that none can be taken for another's. [`lent`] has the calls over a caller's own arrays, where
+//! each is told again.
+//!
+//! ```
+//! use simjaldek::{Bank, Index, Points, ProductAnswer};
+//!
+//! let points = Points::standard(2, 32)?;
+//! let long = points.read("v0 v0 * v0 v1 * +")?.formula;
+//! let bank = Bank::build_for(&points, long.as_formula())?;
+//! let index = Index::build(&bank, 1000)?;
+//! let answer = index.product_for(long.as_formula())?;
+//! let ProductAnswer::Atoms(a, b) = answer else {
 //!     panic!("v0 * (v0 + v1) is a product of two atoms");
 //! };
-//! let texts = [a, b].map(|slot| bank.formula(slot).map(|formula| formula.to_string()));
-//! assert_eq!(texts, [Some("v0".to_owned()), Some("v0 v1 +".to_owned())]);
-//! # Ok(())
-//! # }
+//! assert_eq!([a, b].map(|atom| atom.to_string()), ["v0", "v0 v1 +"]);
+//! assert_eq!(answer.postfix().map(|product| product.to_string()), Some("v0 v0 v1 + *".to_owned()));
+//! # Ok::<(), Box<dyn std::error::Error>>(())
 //! ```
 
 #![warn(missing_docs)]
 #![deny(unsafe_code)]
 
+mod bank;
+mod fault;
 mod ffi;
 mod formula;
+mod index;
 pub mod lent;
-mod owned;
+mod parse;
+mod points;
 mod refusal;
 mod types;
 
-pub use formula::{Formula, FormulaBuf, ParseTokenError, Token};
+pub use bank::{Atom, Bank};
+pub use fault::{Fault, FormulaError, FORMULA_TOKENS};
+pub use formula::{CutConstant, Formula, FormulaBuf, Token};
+pub use index::{Index, Pair, ProductAnswer};
 pub use lent::{
-    bitmask, mod_add, mod_inverse_odd, mod_mul, mod_neg, mod_not, mod_sub, probe_points, reduce,
-    splitmix64, wrapping_mul,
+    bitmask, mod_add, mod_inverse_odd, mod_mul, mod_neg, mod_not, mod_sub, reduce, splitmix64,
+    wrapping_mul,
 };
-pub use owned::{candidates, product_search, Bank, Index};
+pub use parse::{ParseFormulaError, ParseTokenError};
+pub use points::{Points, ReadError, Reading};
 pub use refusal::Refusal;
 pub use types::{
     AtomSlot, Cost, Gate, PairSlot, Point, Product, Row, ATOMS_MAX, ATOM_TOKENS, PAIRS_MAX,
     POINT_WORDS, ROW_WORDS,
 };
 
-/// A formula's tokens as the lent calls take them.
-fn tokens(formula: Formula<'_>) -> lent::Tokens<'_> {
-    lent::Tokens {
-        count: formula.len(),
-        ops: formula.ops(),
-        operands: formula.operands(),
-    }
-}
-
-/// Whether the tokens are a formula over so many variables: what refusal 6 tests.
+/// Whether the tokens are a formula over so many variables: what refusal 6 tests. [`Formula::fault`] says what they lack.
 pub fn is_formula(num_vars: u32, formula: Formula<'_>) -> bool {
-    lent::is_formula(num_vars, tokens(formula))
+    lent::is_formula(num_vars, formula.lend())
 }
 
 /// The value of a formula modulo 2^w, with a word for each variable. Refuses 1, 2, 6, and 4 for fewer words than variables.
@@ -66,23 +87,15 @@ pub fn evaluate(
     width: u32,
     formula: Formula<'_>,
     words: &[u64],
-) -> Result<u64, Refusal> {
-    lent::evaluate(num_vars, width, tokens(formula), words)
+) -> Result<u64, FormulaError> {
+    lent::evaluate(num_vars, width, formula.lend(), words)
+        .map_err(|refusal| FormulaError::new(refusal, num_vars, formula))
 }
 
 /// The cost of a formula. Refuses 1, 6.
-pub fn compute_cost(num_vars: u32, formula: Formula<'_>) -> Result<Cost, Refusal> {
-    lent::compute_cost(num_vars, tokens(formula))
-}
-
-/// The row of a formula: its values at the points. Refuses 1, 2, 6.
-pub fn probe_row(
-    num_vars: u32,
-    width: u32,
-    points: &[Point; 16],
-    formula: Formula<'_>,
-) -> Result<Row, Refusal> {
-    lent::probe_row(num_vars, width, points.as_flattened(), tokens(formula))
+pub fn compute_cost(num_vars: u32, formula: Formula<'_>) -> Result<Cost, FormulaError> {
+    lent::compute_cost(num_vars, formula.lend())
+        .map_err(|refusal| FormulaError::new(refusal, num_vars, formula))
 }
 
 /// A number of a row's words; equal fingerprints never stand for equal rows.

@@ -100,7 +100,7 @@ impl fmt::Display for Cost {
     }
 }
 
-/// What the product search answers.
+/// What the product search over lent arrays answers, by slots; [`ProductAnswer`](crate::ProductAnswer) has the atoms and the pair.
 #[derive(Clone, Copy, Debug, PartialEq, Eq)]
 pub enum Product {
     /// Two atoms whose product is the target.

@@ -4,7 +4,7 @@ mod common;
 
 use common::{one_variable, p2, BankBuffers, IndexBuffers, FILL, FILL_U32, FILL_U64};
 use simjaldek::lent::{self, Atoms, Built, Pairs, Tokens};
-use simjaldek::{AtomSlot, Bank, Index, Product, Refusal, ATOMS_MAX, PAIRS_MAX};
+use simjaldek::{AtomSlot, Bank, Index, Points, Product, Refusal, ATOMS_MAX, PAIRS_MAX};
 
 const P2_POINTS: [u64; 4] = [0, 1, 2, 3];
 
@@ -29,8 +29,8 @@ fn bank_number(nv: u32, w: u32, points: &[u64], target: &[u64], mut buffers: Ban
 
 #[test]
 fn bank_refusals() {
-    let points = one_variable(&P2_POINTS);
-    let points = points.as_flattened();
+    let points = one_variable(2, &P2_POINTS);
+    let points = points.words().as_flattened();
     let target = [0; 16];
     let asked = |nv, w, points: &[u64], target: &[u64]| {
         bank_number(nv, w, points, target, BankBuffers::new())
@@ -50,13 +50,22 @@ fn bank_refusals() {
 
 #[test]
 fn bank_ignores_words_past_the_count() {
-    let points = one_variable(&P2_POINTS).map(|[word, ..]| [word, 9, 9, 9, 9, 9]);
-    assert_eq!(Bank::build(1, 2, &points, &[0; 16]), Ok(p2()));
+    let words = one_variable(2, &P2_POINTS)
+        .words()
+        .map(|[word, ..]| [word, 9, 9, 9, 9, 9]);
+    let points = Points::new(1, 2, words).unwrap();
+    assert_eq!(Bank::build(&points, &[0; 16]), Ok(p2()));
+    let (mut buffers, mut zeros) = (BankBuffers::new(), BankBuffers::new());
+    let words = words.as_flattened();
+    let built = lent::build_bank(1, 2, words, &[0; 16], buffers.lend());
+    let words = points.words().as_flattened();
+    let as_zeros = lent::build_bank(1, 2, words, &[0; 16], zeros.lend());
+    assert_eq!((built, buffers), (as_zeros, zeros));
 }
 
 #[test]
 fn bank_buffers_one_place_short() {
-    let points = one_variable(&P2_POINTS);
+    let points = one_variable(2, &P2_POINTS);
     let shortened: [fn(&mut BankBuffers); 6] = [
         |buffers| shorten(&mut buffers.lengths),
         |buffers| shorten(&mut buffers.ops),
@@ -69,7 +78,7 @@ fn bank_buffers_one_place_short() {
         let mut buffers = BankBuffers::new();
         one(&mut buffers);
         // 4 comes before 5: the target does not fit the width
-        let refused = bank_number(1, 2, points.as_flattened(), &[4; 16], buffers);
+        let refused = bank_number(1, 2, points.words().as_flattened(), &[4; 16], buffers);
         assert_eq!(refused, 4);
     }
 }
@@ -77,8 +86,9 @@ fn bank_buffers_one_place_short() {
 #[test]
 fn bank_places_beyond_the_count() {
     let mut buffers = BankBuffers::new();
-    let points = one_variable(&P2_POINTS);
-    let built = lent::build_bank(1, 2, points.as_flattened(), &[0; 16], buffers.lend());
+    let points = one_variable(2, &P2_POINTS);
+    let points = points.words().as_flattened();
+    let built = lent::build_bank(1, 2, points, &[0; 16], buffers.lend());
     assert_eq!(built, Ok(14));
     assert!(buffers.lengths[14..].iter().all(|&x| x == FILL_U32));
     assert!(buffers.ops[6 * 14..].iter().all(|&x| x == FILL));
@@ -121,8 +131,9 @@ fn index_refusals() {
         rows: &rows,
     };
     assert_eq!(asked(2, many, 40), 7);
-    assert_eq!(number(Index::build(&bank, 65, 10)), 2);
-    assert_eq!(number(Index::build(&bank, 2, usize::MAX)), 3);
+    for limit in [PAIRS_MAX + 1, usize::MAX] {
+        assert_eq!(number(Index::build(&bank, limit)), 3);
+    }
 }
 
 #[test]
@@ -227,7 +238,10 @@ fn too_many_pairs() {
 #[test]
 fn search_refusals() {
     let bank = p2();
-    let index = Index::build(&bank, 2, PAIRS_MAX).unwrap();
+    let index = Index::build(&bank, PAIRS_MAX).unwrap();
+    assert_eq!(number(index.product_search(&[4; 16])), 5);
+    assert_eq!(number(index.candidates(4, 0)), 5);
+    assert_eq!(number(index.candidates(0, 4)), 5);
     let (atoms, pairs, zeros) = (bank.lend(), index.lend(), [0; 16]);
     let asked =
         |w, atoms, pairs, target: &[u64]| number(lent::product_search(w, atoms, pairs, target));
@@ -298,9 +312,9 @@ fn row_refusals() {
     assert_eq!(handed(many, 0), 7);
     assert_eq!(handed(atoms, 14), 7);
     assert_eq!(handed(atoms, u32::MAX), 7);
-    for slot in bank.slots() {
-        let row = lent::atom_row(atoms, slot).unwrap();
-        assert_eq!(Some(row), bank.row(slot).map(|row| &row[..]));
+    assert_eq!(number(bank.find_row(&[4; 16])), 5);
+    for atom in bank.atoms() {
+        assert_eq!(lent::atom_row(atoms, atom.slot()), Ok(&atom.row()[..]));
     }
 }
 
@@ -364,6 +378,29 @@ fn point_refusals() {
     assert_eq!(number(lent::probe_points(7, 8)), 1);
     assert_eq!(number(lent::probe_points(6, 0)), 2);
     assert_eq!(number(lent::probe_points(6, 65)), 2);
+    for (nv, w) in [(0, 0), (7, 8), (6, 0), (6, 65), (u32::MAX, 65)] {
+        let refused = number(lent::probe_points(nv, w));
+        assert_eq!(number(Points::standard(nv, w)), refused);
+        assert_eq!(number(Points::new(nv, w, [[u64::MAX; 6]; 16])), refused);
+    }
+}
+
+/// A caller's own points: 5 exactly if a word of a variable reaches 2^w, as a bank build has it.
+#[test]
+fn own_points() {
+    for (nv, w) in [(1, 1), (3, 8), (6, 63), (6, 64)] {
+        for place in 0..96 {
+            let mut words = *Points::standard(nv, w).unwrap().words();
+            words[place / 6][place % 6] = simjaldek::bitmask(w);
+            assert_eq!(number(Points::new(nv, w, words)), 0);
+            words[place / 6][place % 6] = 1u64.checked_shl(w).unwrap_or(u64::MAX);
+            let refused = number(Points::new(nv, w, words));
+            assert_eq!(refused == 5, place % 6 < nv as usize && w < 64);
+            let points = words.as_flattened();
+            let built = bank_number(nv, w, points, &[0; 16], BankBuffers::new());
+            assert_eq!(refused, built);
+        }
+    }
 }
 
 #[test]

@@ -2,28 +2,24 @@
 
 mod common;
 
-use common::{one_variable, p2, repeated};
-use simjaldek::lent::{self, Atoms, Pairs};
+use common::{one_variable, p2, repeated, IndexBuffers};
+use simjaldek::lent::{self, Atoms, Built, Pairs};
 use simjaldek::{
-    candidates, compute_cost, product_search, AtomSlot, Bank, Cost, FormulaBuf, Gate, Index,
-    PairSlot, Product, Refusal, PAIRS_MAX,
+    compute_cost, AtomSlot, Bank, Cost, FormulaBuf, Gate, Index, Pair, PairSlot, Product, Refusal,
+    PAIRS_MAX,
 };
 
 fn texts(bank: &Bank) -> Vec<String> {
-    let formula = |slot| bank.formula(slot).expect("below the count").to_string();
-    bank.slots().map(formula).collect()
+    bank.atoms().map(|atom| atom.to_string()).collect()
 }
 
 #[test]
 fn p1() {
-    let bank = Bank::build(1, 1, &one_variable(&[0, 1]), &[0; 16]).unwrap();
-    let costs: Vec<_> = bank
-        .slots()
-        .map(|slot| bank.cost(slot).unwrap().to_string())
-        .collect();
+    let bank = Bank::build(&one_variable(1, &[0, 1]), &[0; 16]).unwrap();
+    let costs: Vec<_> = bank.atoms().map(|atom| atom.cost().to_string()).collect();
     assert_eq!(costs, ["1 0 1", "1 0 1", "1 0 1", "2 0 2"]);
     assert_eq!(texts(&bank), ["c0", "c1", "v0", "v0 !"]);
-    let index = Index::build(&bank, 1, 10).unwrap();
+    let index = Index::build(&bank, 10).unwrap();
     assert!(index.is_empty() && !index.is_cut());
 }
 
@@ -31,45 +27,48 @@ fn p1() {
 fn p2_last_atom() {
     let bank = p2();
     assert_eq!(bank.len(), 14);
-    let last = AtomSlot(13);
-    assert_eq!(bank.formula(last).unwrap().to_string(), "v0 v0 * !");
-    assert_eq!(bank.row(last), Some(&repeated(&[3, 2])));
-    assert_eq!(bank.find_row(2, &repeated(&[3, 2])), Ok(Some(last)));
-    assert_eq!(bank.find_row(2, &repeated(&[0, 0, 0, 1])), Ok(None));
-    let beyond = AtomSlot(14);
-    assert_eq!(bank.row(beyond), None);
-    assert_eq!(bank.cost(beyond), None);
-    assert_eq!(bank.formula(beyond), None);
+    let last = bank.atom(AtomSlot(13)).unwrap();
+    assert_eq!(last.formula().to_string(), "v0 v0 * !");
+    assert_eq!(last.row(), &repeated(&[3, 2]));
+    assert_eq!(bank.atoms().last(), Some(last));
+    assert_eq!(bank.find_row(&repeated(&[3, 2])), Ok(Some(last)));
+    assert_eq!(bank.find_row(&repeated(&[0, 0, 0, 1])), Ok(None));
+    assert_eq!(bank.atom(AtomSlot(14)), None);
+    assert_eq!(bank.atom(AtomSlot(u32::MAX)), None);
 }
 
 #[test]
 fn p3() {
     let bank = p2();
-    let whole = Index::build(&bank, 2, PAIRS_MAX).unwrap();
+    let whole = Index::build(&bank, PAIRS_MAX).unwrap();
     assert_eq!((whole.len(), whole.is_cut()), (36, false));
-    let first = PairSlot(0);
-    let and_1_6 = (Gate::And, AtomSlot(1), AtomSlot(6));
-    assert_eq!(whole.pair(first), Some(and_1_6));
-    assert_eq!(whole.row(first), Some(&repeated(&[1, 0])));
-    assert_eq!(
-        (whole.pair(PairSlot(36)), whole.row(PairSlot(36))),
-        (None, None)
-    );
-    assert_eq!(Index::build(&bank, 2, 36), Ok(whole.clone()));
+    let first = whole.pair(PairSlot(0)).unwrap();
+    assert_eq!(told(first), (Gate::And, AtomSlot(1), AtomSlot(6)));
+    assert_eq!(first.row(), &repeated(&[1, 0]));
+    assert_eq!(whole.pair(PairSlot(36)), None);
+    assert_eq!(Index::build(&bank, 36), Ok(whole.clone()));
     for limit in [0, 1, 35] {
-        let index = Index::build(&bank, 2, limit).unwrap();
+        let index = Index::build(&bank, limit).unwrap();
         assert_eq!((index.len(), index.is_cut()), (limit, true));
-        let same =
-            |slot| index.pair(slot) == whole.pair(slot) && index.row(slot) == whole.row(slot);
-        assert!(index.slots().all(same));
+        let same = |(a, b): (Pair<'_>, Pair<'_>)| told(a) == told(b) && a.row() == b.row();
+        assert!(index.pairs().zip(whole.pairs()).all(same));
     }
+}
+
+/// Gate and atoms.
+fn told(pair: Pair<'_>) -> (Gate, AtomSlot, AtomSlot) {
+    let (b, c) = pair.atoms();
+    (pair.gate(), b.slot(), c.slot())
 }
 
 #[test]
 fn order_list_ascends() {
-    let index = Index::build(&p2(), 2, PAIRS_MAX).unwrap();
-    let key = |slot: PairSlot| (index.row(slot).unwrap()[0], slot);
-    let keys: Vec<_> = index.order().map(key).collect();
+    let bank = p2();
+    let index = Index::build(&bank, PAIRS_MAX).unwrap();
+    let keys: Vec<_> = index
+        .order()
+        .map(|pair| (pair.row()[0], pair.slot()))
+        .collect();
     assert_eq!(keys.len(), index.len());
     assert!(keys.windows(2).all(|two| two[0] < two[1]));
 }
@@ -138,24 +137,25 @@ fn p8() {
 
 #[test]
 fn candidates_of_an_index() {
-    let index = Index::build(&p2(), 2, PAIRS_MAX).unwrap();
-    let all: Vec<PairSlot> = index
+    let bank = p2();
+    let index = Index::build(&bank, PAIRS_MAX).unwrap();
+    let all: Vec<Pair<'_>> = index
         .order()
-        .filter(|&slot| index.row(slot).unwrap()[0] * 2 % 4 == 2)
+        .filter(|pair| pair.row()[0] * 2 % 4 == 2)
         .collect();
     assert!(!all.is_empty());
-    assert_eq!(candidates(&index, 2, 2, 2), Ok(Some(all)));
-    assert_eq!(candidates(&index, 2, 2, 1), Ok(Some(vec![])));
-    assert_eq!(candidates(&index, 2, 0, 0), Ok(None));
+    assert_eq!(index.candidates(2, 2), Ok(Some(all)));
+    assert_eq!(index.candidates(2, 1), Ok(Some(vec![])));
+    assert_eq!(index.candidates(0, 0), Ok(None));
 }
 
 #[test]
 fn p9() {
-    let points = one_variable(&std::array::from_fn::<u64, 16, _>(|i| i as u64));
+    let points = one_variable(8, &std::array::from_fn::<u64, 16, _>(|i| i as u64));
     let held = |target: u64| {
-        let bank = Bank::build(1, 8, &points, &[target; 16]).unwrap();
-        let slot = bank.find_row(8, &[254; 16]).unwrap().expect("held");
-        (slot, bank.formula(slot).unwrap().to_string())
+        let bank = Bank::build(&points, &[target; 16]).unwrap();
+        let atom = bank.find_row(&[254; 16]).unwrap().expect("held");
+        (atom.slot(), atom.to_string())
     };
     let (slot, text) = held(0);
     assert_eq!(text, "c1 !");
@@ -167,30 +167,33 @@ fn p10() {
     let mut target = [0; 16];
     target[..7].fill(1);
     target[7] = 4;
-    let points = one_variable(&std::array::from_fn::<u64, 16, _>(|i| i as u64));
-    let bank = Bank::build(1, 8, &points, &target).unwrap();
-    let held = |word: u64| bank.find_row(8, &[word; 16]).unwrap().is_some();
+    let points = one_variable(8, &std::array::from_fn::<u64, 16, _>(|i| i as u64));
+    let bank = Bank::build(&points, &target).unwrap();
+    let held = |word: u64| bank.find_row(&[word; 16]).unwrap().is_some();
     assert!(held(5) && held(1) && !held(4));
 }
 
 #[test]
 fn target_word_256() {
-    let build = |word| Bank::build(1, 8, &one_variable(&[0]), &[word; 16]).map(|_| ());
+    let build = |word| Bank::build(&one_variable(8, &[0]), &[word; 16]).map(|_| ());
     assert_eq!(build(256), Err(Refusal::Word));
     assert_eq!(build(255), Ok(()));
 }
 
-/// The answer over the bank's whole index at a width of its own, which has so many pairs.
+/// The answer over the bank's whole index at a width other than the bank's, which has so many pairs: by lent arrays, since an
+/// [`Index`] has its bank's width.
 fn search(bank: &Bank, width: u32, pairs: usize, target: &[u64]) -> Product {
-    let index = Index::build(bank, width, PAIRS_MAX).unwrap();
-    assert_eq!((index.len(), index.is_cut()), (pairs, false));
-    product_search(bank, &index, width, &repeated(target)).unwrap()
+    let mut index = IndexBuffers::new(pairs);
+    let built = lent::build_index(width, bank.lend(), pairs, index.lend());
+    assert_eq!(built, Ok(Built { pairs, cut: false }));
+    let target = repeated(target);
+    lent::product_search(width, bank.lend(), index.pairs(pairs), &target).unwrap()
 }
 
 #[test]
 fn d1() {
     let bank = |width, words: &[u64], target| {
-        Bank::build(1, width, &one_variable(words), &[target; 16]).unwrap()
+        Bank::build(&one_variable(width, words), &[target; 16]).unwrap()
     };
     let four = bank(3, &[0, 1, 2, 3], 0);
     assert_eq!(four.len(), 17);
@@ -203,8 +206,8 @@ fn d1() {
 
 #[test]
 fn d1_with_eight_points() {
-    let points = one_variable(&[0, 1, 2, 3, 4, 5, 6, 7]);
-    let bank = Bank::build(1, 3, &points, &[0; 16]).unwrap();
+    let points = one_variable(3, &[0, 1, 2, 3, 4, 5, 6, 7]);
+    let bank = Bank::build(&points, &[0; 16]).unwrap();
     let answer = Product::AtomPair(AtomSlot(1), PairSlot(92));
     assert_eq!(search(&bank, 2, 216, &[3, 1, 3, 3]), answer);
 }
@@ -239,13 +242,12 @@ fn d1_with_lent_rows() {
 
 #[test]
 fn d2() {
-    let bank = Bank::build(1, 2, &one_variable(&[0, 2]), &[0; 16]).unwrap();
-    assert_eq!(bank.len(), 7);
-    let index = Index::build(&bank, 2, PAIRS_MAX).unwrap();
-    let product = product_search(&bank, &index, 2, &repeated(&[1, 3]));
-    assert_eq!(product, Ok(Product::Atoms(AtomSlot(1), AtomSlot(6))));
-    let bank = p2();
-    let index = Index::build(&bank, 2, PAIRS_MAX).unwrap();
-    let product = product_search(&bank, &index, 2, &repeated(&[0, 1]));
-    assert_eq!(product, Ok(Product::Atoms(AtomSlot(1), AtomSlot(8))));
+    let first = Bank::build(&one_variable(2, &[0, 2]), &[0; 16]).unwrap();
+    assert_eq!(first.len(), 7);
+    for (bank, target, slot) in [(first, [1, 3], 6), (p2(), [0, 1], 8)] {
+        let index = Index::build(&bank, PAIRS_MAX).unwrap();
+        let answer = index.product_search(&repeated(&target)).unwrap();
+        let product = Product::Atoms(AtomSlot(1), AtomSlot(slot));
+        assert_eq!(answer.slots(), product);
+    }
 }

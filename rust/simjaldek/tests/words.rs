@@ -3,8 +3,8 @@
 use simjaldek::lent::{token_at, Tokens};
 use simjaldek::{
     bitmask, evaluate, fingerprint, gate_apply, gate_matches, gate_residual, is_formula, mod_add,
-    mod_inverse_odd, mod_mul, mod_neg, mod_not, mod_sub, probe_points, probe_row, reduce,
-    wrapping_mul, Cost, Formula, FormulaBuf, Gate, Refusal, Row, Token,
+    mod_inverse_odd, mod_mul, mod_neg, mod_not, mod_sub, reduce, wrapping_mul, Cost, Formula,
+    FormulaBuf, Gate, Points, Refusal, Row, Token,
 };
 
 fn splitmix64(state: &mut u64) -> u64 {
@@ -91,8 +91,9 @@ fn better_costs() {
 fn points() {
     for (num_vars, width) in [(1, 64), (3, 7), (6, 1)] {
         let mut state = 0xC0B4A;
-        let points = probe_points(num_vars, width).unwrap();
-        for point in points {
+        let points = Points::standard(num_vars, width).unwrap();
+        assert_eq!((points.num_vars(), points.width()), (num_vars, width));
+        for &point in points.words() {
             for (place, word) in point.into_iter().enumerate() {
                 let drawn = (place < num_vars as usize).then(|| splitmix64(&mut state));
                 assert_eq!(word, drawn.unwrap_or(0) & mask(width));
@@ -152,11 +153,15 @@ fn values_and_rows() {
         (left | x.wrapping_neg()).wrapping_add(y & 9)
     };
     for width in [1, 8, 64] {
-        let points = probe_points(2, width).unwrap();
-        let row = points.map(|point| value(point[0], point[1]) & mask(width));
+        let points = Points::standard(2, width).unwrap();
+        let words = points.words();
+        let row = words.map(|point| value(point[0], point[1]) & mask(width));
         let formula = formula.as_formula();
-        assert_eq!(probe_row(2, width, &points, formula), Ok(row));
-        assert_eq!(evaluate(2, width, formula, &points[0]), Ok(row[0]));
+        assert_eq!(points.row(formula), Ok(row));
+        assert_eq!(evaluate(2, width, formula, &words[0]), Ok(row[0]));
+        assert_eq!(points.evaluate(formula, &words[0][..2]), Ok(row[0]));
+        let few = points.evaluate(formula, &words[0][..1]).unwrap_err();
+        assert_eq!((few.refusal(), few.fault()), (Refusal::ShortArray, None));
     }
 }
 

@@ -1,8 +1,8 @@
 //! Inputs that several tests use.
 #![allow(dead_code)]
 
-use simjaldek::lent::{work_len, BankArrays, IndexArrays};
-use simjaldek::{Bank, Point, Row, ATOMS_MAX};
+use simjaldek::lent::{work_len, BankArrays, IndexArrays, Pairs};
+use simjaldek::{Bank, Points, Row, ATOMS_MAX};
 
 /// A row of these words over and over.
 pub fn repeated(words: &[u64]) -> Row {
@@ -10,13 +10,14 @@ pub fn repeated(words: &[u64]) -> Row {
 }
 
 /// Sixteen points of one variable, these words over and over.
-pub fn one_variable(words: &[u64]) -> [Point; 16] {
-    repeated(words).map(|word| [word, 0, 0, 0, 0, 0])
+pub fn one_variable(width: u32, words: &[u64]) -> Points {
+    let points = repeated(words).map(|word| [word, 0, 0, 0, 0, 0]);
+    Points::new(1, width, points).expect("words below 2^w")
 }
 
 /// P2's bank.
 pub fn p2() -> Bank {
-    Bank::build(1, 2, &one_variable(&[0, 1, 2, 3]), &[0; 16]).expect("P2 is not refused")
+    Bank::build(&one_variable(2, &[0, 1, 2, 3]), &[0; 16]).expect("P2 is not refused")
 }
 
 /// What fills buffers before a call.
@@ -84,6 +85,15 @@ impl IndexBuffers {
             rows: &mut self.rows,
             order: &mut self.order,
             work: &mut self.work,
+        }
+    }
+
+    /// The first so many pairs as a search takes them.
+    pub fn pairs(&self, count: usize) -> Pairs<'_> {
+        Pairs {
+            count,
+            rows: &self.rows,
+            order: &self.order,
         }
     }
 }

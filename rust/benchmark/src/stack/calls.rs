@@ -1,0 +1,287 @@
+//! Each exported call with the inputs that need most.
+
+use std::fmt::Write;
+use std::hint::black_box;
+
+use simjaldek::lent::{self, BankArrays, IndexArrays, Tokens};
+use simjaldek::{
+    bitmask, AtomSlot, Bank, Cost, Formula, FormulaBuf, Index, Points, Product, Row, ATOMS_MAX,
+    ATOM_TOKENS, PAIRS_MAX, ROW_WORDS,
+};
+
+/// A call that is ready: what it takes is made.
+pub type Work = Box<dyn FnOnce() + Send>;
+
+/// A call to measure.
+pub struct Call {
+    /// The export's name, after `simjaldek_`.
+    pub name: &'static str,
+    /// Its inputs, in words.
+    pub with: &'static str,
+    /// Makes its inputs.
+    pub work: fn() -> Work,
+}
+
+const NUM_VARS: u32 = 6;
+const WIDTH: u32 = 64;
+/// The listing program's largest limit.
+const LISTED_MAX: usize = 500;
+
+/// All exports, in the library's order; `empty`, which makes no call, comes first.
+pub const CALLS: [Call; 29] = [
+    call("empty", "", || Box::new(|| ())),
+    call("product_search", FULL_INDEX, product_search),
+    call("find_row", BANK, find_row),
+    call("build_index", FULL_INDEX, build_index),
+    call("collect_mul_probe0_candidates", FULL_INDEX, candidates),
+    call("build_bank", BANK, build_bank),
+    call("token_at", FORMULAS, token_at),
+    call("is_formula", FORMULAS, is_formula),
+    call("eval", FORMULAS, eval),
+    call("compute_cost", FORMULAS, compute_cost),
+    call("make_probe_points", "six variables", || {
+        Box::new(|| assert!(lent::probe_points(NUM_VARS, WIDTH).is_ok()))
+    }),
+    call("probe", FORMULAS, probe),
+    call("fingerprint", "a row", || {
+        Box::new(|| assert!(lent::fingerprint(&row(1)).is_ok()))
+    }),
+    call("bitmask", WORDS, || word(|a, _| bitmask(a as u32))),
+    call("reduce", WORDS, || word(|a, _| lent::reduce(a, 63))),
+    call("wrapping_mul", WORDS, || word(lent::wrapping_mul)),
+    call("mod_add", WORDS, || word(|a, b| lent::mod_add(a, b, 63))),
+    call("mod_sub", WORDS, || word(|a, b| lent::mod_sub(a, b, 63))),
+    call("mod_mul", WORDS, || word(|a, b| lent::mod_mul(a, b, 63))),
+    call("mod_not", WORDS, || word(|a, _| lent::mod_not(a, 63))),
+    call("mod_neg", WORDS, || word(|a, _| lent::mod_neg(a, 63))),
+    call("mod_inverse_odd", WORDS, || {
+        word(|a, _| lent::mod_inverse_odd(a | 1, WIDTH))
+    }),
+    call("splitmix64", WORDS, || word(|a, _| lent::splitmix64(a).1)),
+    call("is_better", "two costs", is_better),
+    call("gate_apply", ROWS, || {
+        gates(|a, b, gate| lent::gate_apply(a, b, gate, WIDTH).is_ok())
+    }),
+    call("gate_residual", ROWS, || {
+        gates(|a, b, gate| lent::gate_residual(a, b, gate, WIDTH).is_ok())
+    }),
+    call("gate_matches", ROWS, || {
+        gates(|a, b, gate| lent::gate_matches(a, b, a, gate, WIDTH).is_ok())
+    }),
+    call("atom_row", BANK, atom_row),
+    call(
+        "write_listing",
+        "six variables, width 64, 500 pairs",
+        write_listing,
+    ),
+];
+
+const FULL_INDEX: &str = "six variables, 262,144 pairs";
+const BANK: &str = "six variables, eight seeds";
+const FORMULAS: &str = "64 tokens, depth 64 and 32 each way";
+const ROWS: &str = "rows, each gate";
+const WORDS: &str = "words";
+
+const fn call(name: &'static str, with: &'static str, work: fn() -> Work) -> Call {
+    Call { name, with, work }
+}
+
+// ---- numbers and rows
+
+fn word(ask: fn(u64, u64) -> u64) -> Work {
+    Box::new(move || {
+        black_box(ask(black_box(u64::MAX), black_box(3)));
+    })
+}
+
+fn gates(ask: fn(&Row, &Row, u32) -> bool) -> Work {
+    let (a, b) = (row(1), row(2));
+    Box::new(move || assert!((0..5).all(|gate| ask(&a, &b, gate))))
+}
+
+/// Sixteen words of splitmix64 from this state.
+fn row(mut state: u64) -> Row {
+    std::array::from_fn(|_| {
+        let (next, word) = lent::splitmix64(state);
+        state = next;
+        word
+    })
+}
+
+fn is_better() -> Work {
+    let cost = |depth| Cost {
+        size: 1,
+        products: 1,
+        depth,
+    };
+    Box::new(move || assert!(cost(1).is_better(cost(2))))
+}
+
+// ---- formulas
+
+/// The deepest formulas of 64 tokens: under Nots, and with products whose left or right operand is the longer.
+fn formulas() -> [FormulaBuf; 3] {
+    let leaf = "v0";
+    let texts = [
+        format!("{leaf}{}", " !".repeat(63)),
+        format!("{leaf}{} !", " v1 *".repeat(31)),
+        format!("{}{leaf}{} !", "v1 ".repeat(31), " *".repeat(31)),
+    ];
+    texts.map(|text| text.parse().expect("tokens"))
+}
+
+fn with_formulas(ask: fn(Tokens<'_>)) -> Work {
+    let formulas = formulas();
+    Box::new(move || {
+        let lent = formulas.iter().map(FormulaBuf::as_formula);
+        lent.map(Formula::lend).for_each(ask);
+    })
+}
+
+fn token_at() -> Work {
+    with_formulas(|tokens| {
+        black_box(lent::token_at(tokens.ops, tokens.operands, 63));
+    })
+}
+
+fn is_formula() -> Work {
+    with_formulas(|tokens| assert!(lent::is_formula(NUM_VARS, tokens)))
+}
+
+fn eval() -> Work {
+    with_formulas(|tokens| assert!(lent::evaluate(NUM_VARS, WIDTH, tokens, &[7; 6]).is_ok()))
+}
+
+fn compute_cost() -> Work {
+    with_formulas(|tokens| assert!(lent::compute_cost(NUM_VARS, tokens).is_ok()))
+}
+
+fn probe() -> Work {
+    with_formulas(|tokens| assert!(lent::probe_row(NUM_VARS, WIDTH, &[7; 96], tokens).is_ok()))
+}
+
+// ---- banks and indexes
+
+fn points() -> Points {
+    Points::standard(NUM_VARS, WIDTH).expect("in range")
+}
+
+/// A target of eight seeds.
+fn target() -> Row {
+    row(0)
+}
+
+/// The bank; the child ends soon, so that it is never dropped.
+fn bank() -> &'static Bank {
+    let bank = Bank::build(&points(), &target()).expect("words below 2^64");
+    Box::leak(Box::new(bank))
+}
+
+fn index() -> Index<'static> {
+    let index = Index::build(bank(), PAIRS_MAX).expect("a limit in range");
+    assert!(index.is_cut() && index.len() == PAIRS_MAX);
+    index
+}
+
+fn find_row() -> Work {
+    let bank = bank();
+    let last = *bank.atoms().last().expect("a bank has atoms").row();
+    Box::new(move || {
+        for row in [last, row(5)] {
+            assert!(lent::find_row(WIDTH, bank.lend(), &row).is_ok());
+        }
+    })
+}
+
+fn atom_row() -> Work {
+    let bank = bank();
+    let last = AtomSlot(bank.len() as u32 - 1);
+    Box::new(move || assert!(lent::atom_row(bank.lend(), last).is_ok()))
+}
+
+fn build_bank() -> Work {
+    let (points, target) = (points(), target());
+    let mut lengths = vec![0; ATOMS_MAX];
+    let mut ops = vec![0; ATOM_TOKENS * ATOMS_MAX];
+    let mut operands = vec![0; ATOM_TOKENS * ATOMS_MAX];
+    let mut costs = vec![0; 3 * ATOMS_MAX];
+    let mut rows = vec![0; ROW_WORDS * ATOMS_MAX];
+    let mut work = vec![0; lent::work_len(0)];
+    Box::new(move || {
+        let arrays = BankArrays {
+            lengths: &mut lengths,
+            ops: &mut ops,
+            operands: &mut operands,
+            costs: &mut costs,
+            rows: &mut rows,
+            work: &mut work,
+        };
+        let words = points.words().as_flattened();
+        assert!(lent::build_bank(NUM_VARS, WIDTH, words, &target, arrays).is_ok());
+    })
+}
+
+fn build_index() -> Work {
+    let bank = bank();
+    let mut pairs = vec![0; 3 * PAIRS_MAX];
+    let mut rows = vec![0; ROW_WORDS * PAIRS_MAX];
+    let mut order = vec![0; PAIRS_MAX];
+    let mut work = vec![0; lent::work_len(PAIRS_MAX)];
+    Box::new(move || {
+        let arrays = IndexArrays {
+            pairs: &mut pairs,
+            rows: &mut rows,
+            order: &mut order,
+            work: &mut work,
+        };
+        assert!(lent::build_index(WIDTH, bank.lend(), PAIRS_MAX, arrays).is_ok());
+    })
+}
+
+fn candidates() -> Work {
+    let index = index();
+    let mut list = vec![0; PAIRS_MAX];
+    let first = index.pairs().last().expect("an index has pairs").row()[0];
+    Box::new(move || {
+        for (p, t) in [(1, first), (3, first), (256, 0), (0, 0), (512, 512)] {
+            assert!(lent::candidates(WIDTH, index.lend(), p, t, &mut list).is_ok());
+        }
+    })
+}
+
+/// Searches that find nothing, with and without the filter, and one each for two atoms and for an atom and a pair.
+fn product_search() -> Work {
+    let index = index();
+    let mut zero_first = target();
+    zero_first[0] = 0;
+    let atom = *index.bank().atoms().last().expect("it has atoms").row();
+    let pair = *index.pairs().next().expect("it has pairs").row();
+    let targets = [target(), zero_first, atom, pair];
+    Box::new(move || {
+        let search =
+            |target: &Row| lent::product_search(WIDTH, index.bank().lend(), index.lend(), target);
+        let found = targets.each_ref().map(search);
+        assert!(matches!(
+            found,
+            [
+                Ok(Product::Nothing),
+                Ok(Product::Nothing),
+                Ok(Product::Atoms(..)),
+                Ok(Product::AtomPair(..)),
+            ]
+        ));
+    })
+}
+
+fn write_listing() -> Work {
+    let mut text = format!("{NUM_VARS} {WIDTH} {LISTED_MAX}");
+    let points = points();
+    for word in points.words().as_flattened().iter().chain(&target()) {
+        write!(text, " {word}").expect("a string takes all");
+    }
+    let mut out = vec![0; lent::TEXT_MAX];
+    Box::new(move || {
+        let length = lent::write_listing(text.as_bytes(), &mut out).expect("room enough");
+        assert!(out[..length].starts_with(b"atoms 36"));
+    })
+}

@@ -1,0 +1,225 @@
+//! Points, bank and index that own what they were told: what can't be mixed up, and what a caller still can.
+
+mod common;
+
+use common::{one_variable, p2, repeated, IndexBuffers};
+use simjaldek::lent::{self, Built};
+use simjaldek::{
+    splitmix64, Atom, Bank, FormulaBuf, Index, Pair, Points, Product, ProductAnswer, Row, Token,
+    PAIRS_MAX,
+};
+
+fn parsed(text: &str) -> FormulaBuf {
+    text.parse().expect("tokens")
+}
+
+#[test]
+fn told_once() {
+    let points = Points::standard(3, 16).unwrap();
+    let bank = Bank::build(&points, &[0; 16]).unwrap();
+    let index = Index::build(&bank, 10).unwrap();
+    assert_eq!(bank.points(), &points);
+    assert_eq!((bank.num_vars(), bank.width()), (3, 16));
+    assert_eq!((index.bank(), index.width()), (&bank, 16));
+    assert_eq!(
+        Points::new(3, 16, *points.words()),
+        Ok(points.clone()),
+        "the standard points as a caller's own"
+    );
+}
+
+/// Over lent arrays the index of one width can be searched at another, and pairs are missing in silence. An [`Index`] has no width but
+/// its bank's: the wrong one can't be handed in (see the examples of [`Index`] that don't compile).
+#[test]
+fn index_of_another_width() {
+    let bank = Bank::build(&one_variable(3, &[0, 1, 2, 3]), &[0; 16]).unwrap();
+    let index = Index::build(&bank, PAIRS_MAX).unwrap();
+    let mut narrow = IndexBuffers::new(1000);
+    let Ok(Built { pairs, cut: false }) = lent::build_index(1, bank.lend(), 1000, narrow.lend())
+    else {
+        panic!("a whole index of width 1");
+    };
+    let missed = |pair: Pair<'_>| {
+        let found = index.product_search(pair.row()).unwrap();
+        assert_ne!(found.slots(), Product::Nothing);
+        let mixed = lent::product_search(3, bank.lend(), narrow.pairs(pairs), pair.row());
+        mixed == Ok(Product::Nothing)
+    };
+    assert!(index.pairs().any(missed));
+}
+
+/// A slot of one bank read in another is another formula; an atom stays its bank's.
+#[test]
+fn atoms_of_two_banks() {
+    let points = Points::standard(1, 8).unwrap();
+    let banks = [[0; 16], [77; 16]].map(|target| Bank::build(&points, &target).unwrap());
+    let last = banks[1].atoms().last().expect("a bank has atoms");
+    assert_eq!(last.to_string(), "c77");
+    assert_eq!(banks[0].atom(last.slot()), None);
+    let first = |bank| Bank::atoms(bank).next().expect("a bank has atoms");
+    assert_eq!(first(&banks[0]), first(&banks[0]));
+    assert_ne!(first(&banks[0]), first(&banks[1]));
+}
+
+/// What remains: a row of other points is sixteen words like any others. A formula is searched for at the bank's own points.
+#[test]
+fn row_of_other_points() {
+    let (points, other) = (
+        one_variable(8, &[0, 1, 2, 3]),
+        one_variable(8, &[5, 6, 7, 9]),
+    );
+    let formula = parsed("v0 v0 * v0 +");
+    let bank = Bank::build_for(&points, formula.as_formula()).unwrap();
+    let index = Index::build(&bank, PAIRS_MAX).unwrap();
+    let right = index.product_for(formula.as_formula()).unwrap();
+    let row = points.row(formula.as_formula()).unwrap();
+    assert_eq!(bank.row_of(formula.as_formula()), Ok(row));
+    assert_eq!(index.product_search(&row), Ok(right));
+    assert_eq!(row_of(&points, right), Some(row));
+    let slipped = other.row(formula.as_formula()).unwrap();
+    let wrong = index.product_search(&slipped).unwrap();
+    assert_ne!(row_of(&points, wrong), Some(row));
+}
+
+/// The row of a product that was found.
+fn row_of(points: &Points, answer: ProductAnswer<'_>) -> Option<Row> {
+    let product = answer.postfix()?;
+    Some(points.row(product.as_formula()).expect("a formula"))
+}
+
+#[test]
+fn products_written_out() {
+    let bank = p2();
+    let index = Index::build(&bank, PAIRS_MAX).unwrap();
+    let atoms: Vec<Atom<'_>> = bank.atoms().collect();
+    for pair in index.pairs() {
+        let (b, c) = pair.atoms();
+        let text = format!("{b} {c} {}", pair.gate().token());
+        assert_eq!(pair.to_string(), text);
+        assert_eq!(bank.row_of(pair.postfix().as_formula()), Ok(*pair.row()));
+        let answer = ProductAnswer::AtomPair(atoms[4], pair);
+        let product = answer.postfix().expect("a product");
+        assert_eq!(product.to_string(), format!("{} {text} *", atoms[4]));
+    }
+    let answer = ProductAnswer::Atoms(atoms[4], atoms[13]);
+    let product = answer.postfix().expect("a product");
+    assert_eq!(product.as_formula().tokens().last(), Some(Token::Mul));
+    assert_eq!(product.to_string(), "v0 v0 v0 * ! *");
+}
+
+/// Every row that is found is the row of the product that is written out.
+#[test]
+fn products_have_the_row() {
+    let points = Points::standard(2, 8).unwrap();
+    for text in [
+        "v0 v0 * v0 v1 * +",
+        "v0 v1 + v0 v1 - + *",
+        "c3 v0 * c6 *",
+        "v0 v1 ^ v0 v1 & c2 * +",
+    ] {
+        let formula = points.read(text).unwrap().formula;
+        let bank = Bank::build_for(&points, formula.as_formula()).unwrap();
+        let index = Index::build(&bank, PAIRS_MAX).unwrap();
+        let answer = index.product_for(formula.as_formula()).unwrap();
+        assert_eq!(
+            row_of(&points, answer),
+            points.row(formula.as_formula()).ok()
+        );
+    }
+}
+
+#[test]
+fn nothing_and_how_certain() {
+    let bank = p2();
+    let target = repeated(&[0, 1, 2, 0]);
+    for limit in [0, 35, 36, 37] {
+        let index = Index::build(&bank, limit).unwrap();
+        let answer = index.product_search(&target).unwrap();
+        assert_eq!(
+            answer,
+            ProductAnswer::Nothing {
+                certain: limit >= 36
+            }
+        );
+        assert_eq!(answer.postfix(), None);
+    }
+}
+
+/// Seeds come last: the rows without them come first and in the same order, and at most eight follow.
+#[test]
+fn seeds_of_a_target() {
+    let points = Points::standard(2, 16).unwrap();
+    let plain = Bank::build(&points, &[0; 16]).unwrap();
+    for target in points
+        .words()
+        .map(|point| std::array::from_fn(|i| point[0] >> i))
+    {
+        let seeded = Bank::build(&points, &target).unwrap();
+        assert!(seeded.len() <= plain.len() + 8);
+        for (atom, seeded) in plain.atoms().zip(seeded.atoms()) {
+            assert_eq!(atom.row(), seeded.row());
+            assert!(seeded.cost() <= atom.cost());
+        }
+    }
+}
+
+/// A bank that was built for another target lacks a formula's seeds, and "nothing" speaks of that bank alone.
+#[test]
+fn bank_of_another_target() {
+    let points = Points::standard(1, 8).unwrap();
+    let formula = points.read("v0 c77 &").unwrap().formula;
+    let found = |bank: Bank| {
+        let index = Index::build(&bank, PAIRS_MAX).unwrap();
+        let answer = index.product_for(formula.as_formula()).unwrap();
+        assert_eq!(
+            answer.postfix().is_none(),
+            answer == ProductAnswer::Nothing { certain: true }
+        );
+        answer.postfix().map(|product| product.to_string())
+    };
+    let own = Bank::build_for(&points, formula.as_formula()).unwrap();
+    assert_eq!(found(own), Some("c1 v0 c77 & *".to_owned()));
+    assert_eq!(found(Bank::build(&points, &[0; 16]).unwrap()), None);
+}
+
+/// What the crate's first paragraph says of rows: `v0 v1 & v2 &` under a mask of one bit has the zero row for three of the sixteen
+/// bits, and seven others have a product that differs from it elsewhere.
+#[test]
+fn rows_say_no_more() {
+    let points = Points::standard(3, 16).unwrap();
+    let (mut zero, mut differing) = (Vec::new(), Vec::new());
+    for bit in 0..16 {
+        let text = format!("v0 v1 & v2 & c{} &", 1 << bit);
+        let formula = points.read(&text).unwrap().formula;
+        let bank = Bank::build_for(&points, formula.as_formula()).unwrap();
+        let index = Index::build(&bank, PAIRS_MAX).unwrap();
+        let answer = index.product_for(formula.as_formula()).unwrap();
+        if points.row(formula.as_formula()) == Ok([0; 16]) {
+            zero.push(bit);
+            let product = answer.postfix().map(|product| product.to_string());
+            assert_eq!(product, Some("c0 c0 *".to_owned()));
+        }
+        if answer
+            .postfix()
+            .is_some_and(|product| differs(&points, &formula, &product))
+        {
+            differing.push(bit);
+        }
+    }
+    assert_eq!(zero, [1, 4, 10]);
+    assert_eq!(differing, [1, 4, 7, 9, 10, 11, 12, 13, 14, 15]);
+}
+
+/// Whether two formulas differ at one of a hundred random inputs.
+fn differs(points: &Points, a: &FormulaBuf, b: &FormulaBuf) -> bool {
+    let mut state = 5;
+    let mut word = || {
+        let (next, word) = splitmix64(state);
+        state = next;
+        word
+    };
+    (0..100).any(|_| {
+        let words: [u64; 3] = std::array::from_fn(|_| word());
+        points.evaluate(a.as_formula(), &words) != points.evaluate(b.as_formula(), &words)
+    })
+}
