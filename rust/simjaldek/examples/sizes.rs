@@ -1,66 +1,46 @@
-//! How large banks and indexes are at the standard points, as Markdown: `cargo run --release -p simjaldek --example sizes`. First with
-//! the zero target, which has no seeds; then with the most seeds, where that changes whole or cut.
+//! How large banks and indexes are at the standard points, as docs/SPECIFICATION.md has it: `cargo run -p simjaldek --example sizes`.
 
 use simjaldek::{bitmask, Bank, Index, Points, Refusal, Row, PAIRS_MAX};
 
 const WIDTHS: [u32; 7] = [1, 2, 4, 8, 16, 32, 64];
-const HEAD: &str = "| Variables | Width | Atoms | Pairs | |\n|---|---|---|---|---|";
-
-/// The size of a bank and of its index.
-#[derive(Clone, Copy)]
-struct Sizes {
-    atoms: usize,
-    pairs: usize,
-    cut: bool,
-}
+const HEAD: &str = "\
+| Variables | Width | Atoms | Pairs | Index | Atoms, seeded | Pairs, seeded | Index, seeded |
+|---|---|---|---|---|---|---|---|
+";
 
 fn main() -> Result<(), Refusal> {
-    let mut changed = Vec::new();
-    println!("{HEAD}");
+    print!("{}", table()?);
+    Ok(())
+}
+
+/// A line for each variable count and width: with the zero target, which has no seeds, and with a target of many.
+pub fn table() -> Result<String, Refusal> {
+    let mut text = HEAD.to_owned();
     for num_vars in 1..=6 {
         for width in WIDTHS {
             let points = Points::standard(num_vars, width)?;
             let plain = sizes(&points, &[0; 16])?;
-            println!("{}", line(&points, plain));
-            let seeded = most_seeds(&points)?;
-            if seeded.cut != plain.cut {
-                changed.push(line(&points, seeded));
-            }
+            let seeded = sizes(&points, &small_words(width))?;
+            text += &format!("| {num_vars} | {width} | {plain} | {seeded} |\n");
         }
     }
-    println!("\nWith the words 3 to 9 as target, where that changes whole or cut:\n");
-    if changed.is_empty() {
-        println!("nowhere");
-    } else {
-        println!("{HEAD}\n{}", changed.join("\n"));
-    }
-    Ok(())
+    Ok(text)
 }
 
-fn sizes(points: &Points, target: &Row) -> Result<Sizes, Refusal> {
+/// Atoms, pairs, and whole or cut.
+fn sizes(points: &Points, target: &Row) -> Result<String, Refusal> {
     let bank = Bank::build(points, target)?;
     let index = Index::build(&bank, PAIRS_MAX)?;
-    Ok(Sizes {
-        atoms: bank.len(),
-        pairs: index.len(),
-        cut: index.is_cut(),
-    })
+    let mark = if index.is_cut() { "cut" } else { "whole" };
+    Ok(format!("{} | {} | {mark}", bank.len(), index.len()))
 }
 
-/// The sizes with the target of the words 3 to 9, so far as they are below 2^w: the least constants that no bank has of itself. They
-/// and their OR, 15, are eight seeds.
-fn most_seeds(points: &Points) -> Result<Sizes, Refusal> {
-    let below = |word: &u64| *word <= bitmask(points.width());
+/// The words 3 to 9, so far as they are below 2^w: constants that no bank has of itself. They and their OR, 15, are eight seeds.
+fn small_words(width: u32) -> Row {
+    let below = |word: &u64| *word <= bitmask(width);
     let mut target = [0; 16];
     for (place, word) in target.iter_mut().zip((3..=9).filter(below)) {
         *place = word;
     }
-    sizes(points, &target)
-}
-
-fn line(points: &Points, sizes: Sizes) -> String {
-    let (num_vars, width) = (points.num_vars(), points.width());
-    let Sizes { atoms, pairs, cut } = sizes;
-    let mark = if cut { "cut" } else { "whole" };
-    format!("| {num_vars} | {width} | {atoms} | {pairs} | {mark} |")
+    target
 }

@@ -1,7 +1,8 @@
-//! docs/CALLS.md has every exported call with its parameters, and a meaning for each parameter's name.
+//! docs/CALLS.md has every exported call with its parameters, and a meaning for each name; docs/SPECIFICATION.md the sizes that are built.
 
 const FUNCTIONS: &str = include_str!("../../../crates/simjaldek/src/lib.rt");
 const CALLS: &str = include_str!("../../../docs/CALLS.md");
+const SPECIFICATION: &str = include_str!("../../../docs/SPECIFICATION.md");
 
 /// Each export's name and its parameters' names.
 fn exports() -> Vec<(&'static str, Vec<&'static str>)> {
@@ -39,4 +40,14 @@ fn every_parameter_has_its_meaning() {
             assert!(there, "the vocabulary has no {parameter}, of {name}");
         }
     }
+}
+
+#[allow(dead_code)]
+#[path = "../examples/sizes.rs"]
+mod sizes;
+
+#[test]
+fn the_table_of_sizes_is_what_is_built() {
+    let table = sizes::table().expect("nothing is refused");
+    assert!(SPECIFICATION.contains(&table), "{table}");
 }
