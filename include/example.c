@@ -39,7 +39,7 @@ static void print_atom(uint32_t slot) {
 int main(void) {
     struct simjaldek_points_reply at = simjaldek_make_probe_points(NV, W);
     refused("make_probe_points", at.refusal);
-    const uint64_t *points = at.points[0].words;
+    const uint64_t *points = (const uint64_t *)at.points;
     struct simjaldek_row_reply target =
         simjaldek_probe(NV, W, points, 96, TOKENS, ops, TOKENS, operands, TOKENS);
     refused("probe", target.refusal);
@@ -68,7 +68,9 @@ int main(void) {
         printf("%c *\n", "&|^+*"[pairs[3 * found.b]]);
         break;
     default:
-        printf("nothing%s\n", index.b == 1 ? ", but the index is cut" : "");
+        printf("nothing, %s\n", index.b == 1 ? "but the index is cut" : "for certain, of these forms");
+        return 0;
     }
+    printf("the same values at the sixteen points; elsewhere unknown\n");
     return 0;
 }

@@ -1,8 +1,8 @@
 //! Links the static library `libsimjaldek.a`.
 //!
-//! `SIMJALDEK_LIB_DIR` names, by its full path, a folder that holds a ready archive. Without it `rt staticlib simjaldek` runs at
-//! the repository's root, which proves what has changed since it was last proved, and the archive that it names is linked. Cargo is
-//! silent while it runs, so what takes long is told past it.
+//! `SIMJALDEK_LIB_DIR` names, by its full path, a folder that holds a ready archive, of this very commit: nothing tests that it fits.
+//! Without it `rt staticlib simjaldek` runs at the repository's root, which proves what has changed since it was last proved, and the
+//! archive that it names is linked. Cargo is silent while it runs, so what takes long is told past it.
 
 use std::env;
 use std::fs::{self, OpenOptions};
@@ -18,8 +18,12 @@ const ARCHIVE: &str = "libsimjaldek.a";
 fn main() {
     println!("cargo:rerun-if-changed=build.rs");
     println!("cargo:rerun-if-env-changed=SIMJALDEK_LIB_DIR");
-    let target = env::var("CARGO_CFG_TARGET_ARCH").expect("cargo sets CARGO_CFG_TARGET_ARCH");
-    assert!(target == "x86_64", "{ARCHIVE} holds x86-64 code");
+    let told = |name: &str| env::var(name).unwrap_or_else(|_| panic!("cargo sets {name}"));
+    let target = [told("CARGO_CFG_TARGET_ARCH"), told("CARGO_CFG_TARGET_OS")];
+    assert!(
+        target == ["x86_64", "linux"],
+        "{ARCHIVE} holds code for x86-64 Linux"
+    );
     let archive = match env::var_os("SIMJALDEK_LIB_DIR") {
         Some(folder) if !folder.is_empty() => ready_archive(Path::new(&folder)),
         _ => made_archive(),
@@ -29,6 +33,11 @@ fn main() {
 
 /// The archive of a folder.
 fn ready_archive(folder: &Path) -> PathBuf {
+    let place = folder.display();
+    assert!(
+        folder.is_absolute(),
+        "SIMJALDEK_LIB_DIR isn't a full path: {place}"
+    );
     let archive = folder.join(ARCHIVE);
     println!("cargo:rerun-if-changed={}", archive.display());
     archive
@@ -53,15 +62,17 @@ fn made_archive() -> PathBuf {
         .unwrap_or_else(|error| {
             panic!("rt, the Rattle kit's command: {error}; or set SIMJALDEK_LIB_DIR to the folder of a ready {ARCHIVE}")
         });
-    let seconds = start.elapsed().as_secs_f32();
-    tell(&format!("rt staticlib simjaldek took {seconds:.1} seconds"));
     let said = [output.stdout, output.stderr].concat();
     let said = String::from_utf8_lossy(&said);
     assert!(
         output.status.success(),
         "rt staticlib simjaldek failed:\n{said}"
     );
-    let named = said.split_whitespace().find(|word| word.ends_with(ARCHIVE));
+    let seconds = start.elapsed().as_secs_f32();
+    tell(&format!("rt staticlib simjaldek took {seconds:.1} seconds"));
+    // it names the archive at its end
+    let mut words = said.split_whitespace().rev();
+    let named = words.find(|word| word.ends_with(ARCHIVE));
     root.join(named.unwrap_or_else(|| panic!("rt staticlib simjaldek names no archive:\n{said}")))
 }
 
@@ -97,8 +108,9 @@ fn appends(cargo: &Path) -> Option<bool> {
 /// Tells cargo to link a copy of the archive, since `rt ci` removes the folder that `rt` writes to.
 fn link(archive: &Path) {
     let out = PathBuf::from(env::var_os("OUT_DIR").expect("cargo sets OUT_DIR"));
-    fs::copy(archive, out.join(ARCHIVE))
-        .unwrap_or_else(|error| panic!("no archive at {}: {error}", archive.display()));
+    // the bytes alone: a copy of a read-only file couldn't be written over by the next build
+    let copied = fs::read(archive).and_then(|bytes| fs::write(out.join(ARCHIVE), bytes));
+    copied.unwrap_or_else(|error| panic!("can't copy {}: {error}", archive.display()));
     println!("cargo:rustc-link-search=native={}", out.display());
     println!("cargo:rustc-link-lib=static=simjaldek");
 }

@@ -30,7 +30,7 @@ fn main() -> ExitCode {
 /// What the program prints.
 pub fn run(arguments: &[String]) -> Result<String, Box<dyn Error>> {
     let [variables, width, text] = arguments else {
-        return Err(format!("{} arguments where three are wanted", arguments.len()).into());
+        return Err(format!("three arguments are wanted, not {}", arguments.len()).into());
     };
     let points = Points::standard(number("VARIABLES", variables)?, number("WIDTH", width)?)?;
     told(&points, &points.read(text)?)
@@ -68,7 +68,7 @@ fn told(points: &Points, read: &Reading) -> Result<String, Box<dyn Error>> {
     let better = if product_cost.is_better(cost) {
         "better than the formula's"
     } else {
-        "not better than the formula's"
+        "not better than the formula's (it is the first product found, not the cheapest: a shorter one may exist)"
     };
     writeln!(
         text,

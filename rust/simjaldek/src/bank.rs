@@ -21,7 +21,8 @@ pub struct Bank {
 }
 
 impl Bank {
-    /// Builds the bank of the points' variables, with the target's seeds. Refuses 5 for a target word.
+    /// Builds the bank of the points' variables, with the target's seeds. The target is a row at these points; seeds of another row are
+    /// constants like any others. Refuses 5 for a target word.
     ///
     /// **What the target does.** The OR of its words and its first seven nonzero words become constants of the bank: at most eight
     /// more atoms, or cheaper formulas for rows that are held anyway. All else is the same for every target.
@@ -109,7 +110,7 @@ impl Bank {
         self.points.row(formula)
     }
 
-    /// The atom with this row, or none. Refuses 5.
+    /// The atom with this row, or none. A row of other points is words like any others. Refuses 5.
     pub fn find_row(&self, row: &Row) -> Result<Option<Atom<'_>>, Refusal> {
         let found = lent::find_row(self.width(), self.lend(), row)?;
         Ok(found.and_then(|slot| self.atom(slot)))

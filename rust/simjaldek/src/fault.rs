@@ -7,7 +7,7 @@ use std::fmt;
 /// The most tokens of a formula.
 pub const FORMULA_TOKENS: usize = 64;
 
-/// The first thing, from left to right, that keeps tokens from being a formula. Places count from 1.
+/// What keeps tokens from being a formula: how many they are, else the first thing from left to right. Places count from 1.
 #[derive(Clone, Copy, Debug, PartialEq, Eq, Hash)]
 pub enum Fault {
     /// There is no token.
@@ -109,7 +109,7 @@ impl fmt::Display for Fault {
             }
             Fault::ValuesLeft { values } => write!(
                 f,
-                "{values} values are left where one is wanted: a gate is missing (! and - take one value, the others two)"
+                "{values} values are left where one is wanted: a gate is missing (! and - take one value, the others two; v0 v1 - + is v0 - v1)"
             ),
         }
     }
@@ -167,7 +167,7 @@ fn token_fault(place: usize, token: Token, num_vars: u32, values: usize) -> Opti
     }
 }
 
-/// Why a call over a formula was refused; for number 6 with the formula's fault.
+/// Why a call over a formula was refused; for number 6 with the formula's fault, where the formula was at hand.
 #[derive(Clone, Copy, Debug, PartialEq, Eq, Hash)]
 pub struct FormulaError {
     refusal: Refusal,
@@ -189,7 +189,7 @@ impl FormulaError {
         self.refusal
     }
 
-    /// What is wrong with the formula; none for other refusals than 6.
+    /// What is wrong with the formula; none for other refusals than 6, and for one that came from a [`Refusal`] alone.
     pub fn fault(self) -> Option<Fault> {
         self.fault
     }

@@ -42,6 +42,9 @@ const PLAIN: [(Token, u8, &str); 7] = [
 ];
 
 impl Token {
+    /// The opcode that no token has.
+    const NO_OPCODE: u8 = 255;
+
     /// The token of an opcode and an operand.
     pub fn of(opcode: u8, operand: u64) -> Self {
         match (opcode, operand) {
@@ -55,7 +58,7 @@ impl Token {
         }
     }
 
-    /// Its opcode and operand.
+    /// Its opcode and operand; opcode 255 for a [`Token::Bad`] of a token's opcode and operand.
     pub fn parts(self) -> (u8, u64) {
         match self {
             Token::Constant(word) => (0, word),
@@ -67,7 +70,11 @@ impl Token {
             Token::Xor => (6, 0),
             Token::Not => (7, 0),
             Token::Neg => (8, 0),
-            Token::Bad(opcode, operand) => (opcode, operand),
+            // what would be a token stays none
+            Token::Bad(opcode, operand) => match Token::of(opcode, operand) {
+                Token::Bad(..) => (opcode, operand),
+                _ => (Token::NO_OPCODE, operand),
+            },
         }
     }
 

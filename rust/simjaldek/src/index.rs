@@ -143,7 +143,7 @@ impl<'b> Index<'b> {
         self.pair(slot).expect("a listed pair")
     }
 
-    /// The first product of two atoms, else of an atom and a pair, that has this row. Refuses 5.
+    /// The first product of two atoms, else of an atom and a pair, that has this row; in slot order, not the cheapest. Refuses 5.
     ///
     /// The row must be one of the bank's own points ([`Bank::row_of`]): a row of other points is words like any others, and what is
     /// found for it says nothing about the formula that it came from. [`product_for`](Index::product_for) can't go wrong so.
@@ -174,7 +174,8 @@ impl<'b> Index<'b> {
         self.bank.atom(slot).expect("an atom of the bank")
     }
 
-    /// The pairs whose first word f has p × f = t modulo 2^w, in order-list order; none for "not used". Refuses 5.
+    /// The pairs whose first word f has p × f = t modulo 2^w, in order-list order. `None` is "not used": p and t are 0, or there are more
+    /// than 256 solutions, and any pair may fit; an empty list says that none does. Refuses 5.
     pub fn candidates(&self, p: u64, t: u64) -> Result<Option<Vec<Pair<'_>>>, Refusal> {
         let mut list = vec![0; self.len()];
         let count = lent::candidates(self.width(), self.lend(), p, t, &mut list)?;
@@ -263,17 +264,19 @@ impl fmt::Display for Pair<'_> {
     }
 }
 
-/// What the product search answers, in the atoms and pairs that it searched.
+/// What the product search answers, in the atoms and pairs that it searched. Answers are equal within one index; across copies compare
+/// [`slots`](ProductAnswer::slots) or [`postfix`](ProductAnswer::postfix).
 #[derive(Clone, Copy, Debug, PartialEq, Eq)]
 pub enum ProductAnswer<'i> {
     /// Two atoms whose product has the row.
     Atoms(Atom<'i>, Atom<'i>),
     /// An atom and a listed pair whose product has the row.
     AtomPair(Atom<'i>, Pair<'i>),
-    /// No product of two atoms, and of an atom and a listed pair, has the row.
+    /// Neither a product of two atoms nor one of an atom and a listed pair has the row.
     Nothing {
         /// Whether the index is whole. Then no a × b and no a × (b g c) with atoms a, b, c of this bank and a gate g has the row; of
-        /// other forms it says nothing. With a cut index a pair that isn't listed may do.
+        /// other forms it says nothing. With a cut index a pair that isn't listed may do. It speaks of this bank's atoms and of this row:
+        /// with a bank that was built for another target, or a row of other points, it is no verdict on a formula.
         certain: bool,
     },
 }

@@ -1,5 +1,11 @@
 //! The calls over borrowed slices, for callers with buffers of their own. Every length, count and number may be handed in:
-//! what is unfit is refused, and then no buffer has changed. Places beyond the counts stay as they were.
+//! what the table has is refused, and then no buffer has changed. Places beyond the counts stay as they were.
+//!
+//! **Not tested**: that atoms, pairs, points, target and width belong together, that a claimed count is the one that was built, and that
+//! lent rows are below 2^w. Such a call answers for the words that it gets. [`Bank`](crate::Bank) and [`Index`](crate::Index) keep
+//! together what belongs together.
+//!
+//! A gate's number is 0 And, 1 Or, 2 Xor, 3 Add, 4 Mul; these are not the opcodes of tokens (2 Add, 3 Mul, 4 And, 5 Or, 6 Xor).
 //!
 //! All unsafe code of this crate stands here: one block for each exported function.
 
@@ -94,7 +100,9 @@ fn unless_refused<T>(refusal: u32, answer: T) -> Result<T, Refusal> {
     }
 }
 
-/// The first product of two atoms, else of an atom and a pair, that is the target. Refuses 2, 4, 5, 7, 8.
+/// The first product of two atoms, else of an atom and a pair, that is the target; in slot order, not the cheapest. It has the target's
+/// words at the points and may differ elsewhere. "Nothing" is certain only with a whole index of these very atoms at this width.
+/// Refuses 2, 4, 5, 7, 8.
 pub fn product_search(
     width: u32,
     atoms: Atoms<'_>,
@@ -175,8 +183,9 @@ pub fn build_index(
     unless_refused(reply.refusal, built)
 }
 
-/// Writes the slots whose first word f has p × f = t modulo 2^w into `list`, in order-list order, and gives their count; none
-/// for "not used", which writes nothing. `list` has a place for each pair. Refuses 2, 4, 5, 7, 8.
+/// Writes the slots whose first word f has p × f = t modulo 2^w into `list`, in order-list order, and gives their count. `None` is "not
+/// used" and writes nothing: p and t are 0, or there are more than 256 solutions, and any pair may fit; `Some(0)` says that none does.
+/// `list` has a place for each pair. Refuses 2, 4, 5, 7, 8.
 pub fn candidates(
     width: u32,
     pairs: Pairs<'_>,
@@ -239,7 +248,7 @@ pub fn build_bank(
     unless_refused(reply.refusal, reply.a as usize)
 }
 
-/// The token at a place of two arrays; [`Token::Bad`] with opcode 255 for what is none, also past the end of either.
+/// The token at a place, from 0, of two arrays; [`Token::Bad`] with opcode 255 for what is none, also past the end of either.
 pub fn token_at(ops: &[u8], operands: &[u64], at: usize) -> Token {
     // SAFETY: each pointer comes with its own slice's length; the function reads within these lengths and keeps no pointer.
     let reply = unsafe {
@@ -322,7 +331,8 @@ pub fn probe_points(num_vars: u32, width: u32) -> Result<[Point; 16], Refusal> {
     unless_refused(reply.refusal, reply.points.map(|point| point.words))
 }
 
-/// The row of a formula: its values at sixteen points of six words each. Refuses 1, 2, 4, 6.
+/// The row of a formula: its values at sixteen points of six words each, whatever the count of variables. The words may be any; those
+/// past the count are ignored. Refuses 1, 2, 4, 6.
 pub fn probe_row(
     num_vars: u32,
     width: u32,
@@ -346,7 +356,7 @@ pub fn probe_row(
     unless_refused(reply.refusal, reply.row)
 }
 
-/// A number of a row's words; equal fingerprints never stand for equal rows. Refuses 4.
+/// A number of a row's words. Equal rows have equal fingerprints; equal fingerprints don't prove equal rows. Refuses 4.
 pub fn fingerprint(row: &[u64]) -> Result<u64, Refusal> {
     // SAFETY: the pointer comes with its slice's length; the function reads within it and keeps no pointer.
     let reply = unsafe { ffi::simjaldek_fingerprint(row.as_ptr(), row.len()) };
@@ -389,7 +399,7 @@ pub fn mod_mul(a: u64, b: u64, width: u32) -> u64 {
     unsafe { ffi::simjaldek_mod_mul(a, b, width) }
 }
 
-/// Each of the w bits turned: 2^w - 1 - v.
+/// Each of the w bits turned: 2^w - 1 - v, v reduced first.
 pub fn mod_not(v: u64, width: u32) -> u64 {
     // SAFETY: the function takes numbers only.
     unsafe { ffi::simjaldek_mod_not(v, width) }
@@ -430,7 +440,8 @@ pub fn is_better(cost: Cost, other: Cost) -> bool {
     mark == 1
 }
 
-/// The gate of this number in each of sixteen places. Refuses 2, 4, and 6 for a number above 4.
+/// The gate of this number in each of sixteen places. Add and Mul reduce to the width; And, Or and Xor leave high bits in place. Refuses
+/// 2, 4, and 6 for a number above 4.
 pub fn gate_apply(a: &[u64], b: &[u64], gate: u32, width: u32) -> Result<Row, Refusal> {
     // SAFETY: each pointer comes with its own slice's length; the function reads within these lengths and keeps no pointer.
     let reply =
@@ -438,7 +449,8 @@ pub fn gate_apply(a: &[u64], b: &[u64], gate: u32, width: u32) -> Result<Row, Re
     unless_refused(reply.refusal, reply.row)
 }
 
-/// What completes `a` to the target under Xor and Add; zeros under the other gates. Refuses 2, 4, and 6 for a number above 4.
+/// What completes `a` to the target under Xor and Add, where all words are below 2^w; zeros under the other gates. Refuses 2, 4, and 6
+/// for a number above 4.
 pub fn gate_residual(target: &[u64], a: &[u64], gate: u32, width: u32) -> Result<Row, Refusal> {
     // SAFETY: each pointer comes with its own slice's length; the function reads within these lengths and keeps no pointer.
     let reply = unsafe {

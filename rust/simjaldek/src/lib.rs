@@ -2,6 +2,7 @@
 //! formula's values at the sixteen points, and may differ from it elsewhere: at width 16 with three variables
 //! `v0 v1 & v2 & c2 &` is 0 at all of them, the search rightly answers `c0 c0 *`, and with all bits set in each variable the formula
 //! is 2. Comparing the two beyond the points, as cobra does with samples, is for the layer above, before one takes the other's place.
+//! The product is the first that fits in the order of the search, not the cheapest: a shorter one may exist.
 //! "Nothing" is about the forms that were searched, a × b and a × (b g c) with a, b, c atoms of this bank and g a gate, and certain
 //! only where the index is whole: with six variables it is whole without seeds, and with a few of them cut at 262,144 pairs.
 //!
@@ -9,7 +10,9 @@
 //! use simjaldek::{Bank, Index, Points, PAIRS_MAX};
 //!
 //! let points = Points::standard(3, 16)?;
-//! let mask = points.read("v0 v1 & v2 & c2 &")?.formula;
+//! let read = points.read("v0 v1 & v2 & c2 &")?;
+//! assert!(read.cut.is_empty(), "no constant is cut off by the width");
+//! let mask = read.formula;
 //! assert_eq!(points.row(mask.as_formula())?, [0; 16]);
 //! let bank = Bank::build_for(&points, mask.as_formula())?;
 //! let index = Index::build(&bank, PAIRS_MAX)?;
@@ -23,20 +26,20 @@
 //!
 //! This crate has safe calls into Simjaldek: a bank of small formulas, an index of rows made from two of them by a gate, and a search
 //! for products. Each call goes to a function of the static library `libsimjaldek.a` that is proved, for all inputs, to give the
-//! answer or the [`Refusal`] that the specification has; README.md of the repository names the promise of each. What is not proved is
-//! this crate: that its declarations fit the library, and what it does with an answer.
+//! answer or the [`Refusal`] that the specification has; docs/CALLS.md of the repository names the promise of each. What is not proved
+//! is this crate: that its declarations fit the library, and what it does with an answer.
 //!
 //! [`Points`] are told the variable count and the width, once; a [`Bank`] keeps its points, an [`Index`] its bank, an [`Atom`] its
 //! bank and a [`Pair`] its index, so that none can be taken for another's. [`lent`] has the calls over a caller's own arrays, where
 //! each is told again.
 //!
 //! ```
-//! use simjaldek::{Bank, Index, Points, ProductAnswer};
+//! use simjaldek::{Bank, Index, Points, ProductAnswer, PAIRS_MAX};
 //!
 //! let points = Points::standard(2, 32)?;
 //! let long = points.read("v0 v0 * v0 v1 * +")?.formula;
 //! let bank = Bank::build_for(&points, long.as_formula())?;
-//! let index = Index::build(&bank, 1000)?;
+//! let index = Index::build(&bank, PAIRS_MAX)?;
 //! let answer = index.product_for(long.as_formula())?;
 //! let ProductAnswer::Atoms(a, b) = answer else {
 //!     panic!("v0 * (v0 + v1) is a product of two atoms");
@@ -76,12 +79,14 @@ pub use types::{
     POINT_WORDS, ROW_WORDS,
 };
 
-/// Whether the tokens are a formula over so many variables: what refusal 6 tests. [`Formula::fault`] says what they lack.
+/// Whether the tokens are a formula over so many variables: what refusal 6 tests. [`Formula::fault`] says what they lack. Any count of
+/// variables is taken here, also 0 and those above 6, which the other calls refuse.
 pub fn is_formula(num_vars: u32, formula: Formula<'_>) -> bool {
     lent::is_formula(num_vars, formula.lend())
 }
 
-/// The value of a formula modulo 2^w, with a word for each variable. Refuses 1, 2, 6, and 4 for fewer words than variables.
+/// The value of a formula modulo 2^w, with a word for each variable; words past the count are ignored. Refuses 1, 2, 6, and 4 for fewer
+/// words than variables.
 pub fn evaluate(
     num_vars: u32,
     width: u32,
@@ -98,22 +103,22 @@ pub fn compute_cost(num_vars: u32, formula: Formula<'_>) -> Result<Cost, Formula
         .map_err(|refusal| FormulaError::new(refusal, num_vars, formula))
 }
 
-/// A number of a row's words; equal fingerprints never stand for equal rows.
+/// A number of a row's words. Equal rows have equal fingerprints; equal fingerprints don't prove equal rows.
 pub fn fingerprint(row: &Row) -> u64 {
     lent::fingerprint(row).expect("sixteen words are never refused")
 }
 
-/// The gate in each of sixteen places. Refuses 2.
+/// The gate in each of sixteen places. Add and Mul reduce to the width; And, Or and Xor leave high bits in place. Refuses 2.
 pub fn gate_apply(a: &Row, b: &Row, gate: Gate, width: u32) -> Result<Row, Refusal> {
     lent::gate_apply(a, b, gate.number(), width)
 }
 
-/// What completes `a` to the target under Xor and Add; zeros under the other gates. Refuses 2.
+/// What completes `a` to the target under Xor and Add, where all words are below 2^w; zeros under the other gates. Refuses 2.
 pub fn gate_residual(target: &Row, a: &Row, gate: Gate, width: u32) -> Result<Row, Refusal> {
     lent::gate_residual(target, a, gate.number(), width)
 }
 
-/// Whether the gate gives the target in all sixteen places. Refuses 2.
+/// Whether the gate gives the target in all sixteen places, words compared as they are. Refuses 2.
 pub fn gate_matches(
     a: &Row,
     b: &Row,

@@ -27,15 +27,18 @@ impl ParseTokenError {
 
     /// What is wanted in its place.
     fn wanted(&self) -> &'static str {
-        let number_after = |letter| {
-            let digits = self.word.strip_prefix(letter).unwrap_or("");
+        let number_after = |start| {
+            let digits = self.word.strip_prefix(start).unwrap_or("");
             !digits.is_empty() && is_decimal(digits)
         };
-        if number_after('c') {
+        if number_after("c") {
             return "a constant is below 2^64";
         }
-        if number_after('v') {
-            return "variables are v0 to v5";
+        if number_after("v") {
+            return "variables are v0 to v5 at most";
+        }
+        if number_after("c-") || number_after("c+") {
+            return "a constant has no sign: `c1 -` is -1";
         }
         if self.word.contains(['(', ')']) || self.word.contains(|c| SIGNS.contains(c)) {
             return "postfix is wanted, with blanks between the tokens: `v0 v1 +` for v0 + v1";

@@ -26,7 +26,8 @@ impl Points {
         })
     }
 
-    /// A caller's own points. Words past the variable count are ignored, and kept as 0. Refuses 1, 2, 5.
+    /// A caller's own points. Words past the variable count are ignored, and kept as 0. Points may repeat; a row then tells less. Refuses
+    /// 1, 2, 5.
     ///
     /// The library is asked for each: 1 and 2 by its own points, 5 by looking for each variable's words in a bank of no atoms. So a
     /// bank build has nothing left to refuse of the points.
@@ -64,8 +65,8 @@ impl Points {
             .map_err(|refusal| FormulaError::new(refusal, self.num_vars, formula))
     }
 
-    /// The value of a formula with any word for each variable: [`evaluate`](crate::evaluate). Refuses 6, and 4 for fewer words than
-    /// variables.
+    /// The value of a formula with any word for each variable, here or elsewhere: [`evaluate`](crate::evaluate). Refuses 6, and 4 for
+    /// fewer words than variables.
     pub fn evaluate(&self, formula: Formula<'_>, words: &[u64]) -> Result<u64, FormulaError> {
         crate::evaluate(self.num_vars, self.width, formula, words)
     }

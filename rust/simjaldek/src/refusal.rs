@@ -68,11 +68,14 @@ impl fmt::Display for Refusal {
             Refusal::VariableCount => "variable count not 1 to 6",
             Refusal::Width => "width not 1 to 64",
             Refusal::Limit => "L above 262,144",
-            Refusal::ShortArray => "a lent array shorter than stated, or than its count needs",
+            Refusal::ShortArray => {
+                "a lent array shorter than stated, or than its count needs; fewer words than variables"
+            }
             Refusal::Word => "a point, target or row word, p or t not below 2^w",
             Refusal::Formula => {
                 "formula of 0 or over 64 tokens, unknown opcode, nonzero unused operand, \
-                 variable not below the count, operand missing, or not exactly one value left"
+                 variable not below the count, operand missing, or not exactly one value left; \
+                 or not a gate's number, 0 to 4"
             }
             Refusal::Count => {
                 "more than 479 atoms or 262,144 pairs claimed, \

@@ -23,7 +23,7 @@ fn faults_told() {
         (1, "v1", "v1 at token 1: the only variable is v0"),
         (6, "c0 v6 +", "v6 at token 2: variables are v0 to v5"),
         (2, "", "no token: a formula has 1 to 64"),
-        (2, "v0 v1", "2 values are left where one is wanted: a gate is missing (! and - take one value, the others two)"),
+        (2, "v0 v1", "2 values are left where one is wanted: a gate is missing (! and - take one value, the others two; v0 v1 - + is v0 - v1)"),
         (2, &format!("v0{}", " !".repeat(64)), "65 tokens: a formula has 1 to 64"),
         (2, "v0 + v1", &format!("+ at token 2: takes two values and one is there; {operands_first}")),
         (2, "* v0 v1", &format!("* at token 1: takes two values and none is there; {operands_first}")),
@@ -198,13 +198,15 @@ fn constants_cut_off() {
 #[test]
 fn words_that_are_no_tokens() {
     let postfix = "postfix is wanted, with blanks between the tokens: `v0 v1 +` for v0 + v1";
+    let sign = "a constant has no sign: `c1 -` is -1";
     let tokens = "tokens are c and a decimal number, v and a variable's number, and + * & | ^ ! -: `v0 c3 *`";
     let cases = [
         ("(v0 + v1)", "(v0", 1, postfix),
         ("v0 v1+", "v1+", 2, postfix),
         ("v0+v1", "v0+v1", 1, postfix),
         ("v0 )", ")", 2, postfix),
-        ("v0 c+3", "c+3", 2, postfix),
+        ("v0 c+3", "c+3", 2, sign),
+        ("v0 c-1", "c-1", 2, sign),
         ("v0 -1", "-1", 2, postfix),
         ("x", "x", 1, tokens),
         ("v0 3 +", "3", 2, tokens),
@@ -221,7 +223,7 @@ fn words_that_are_no_tokens() {
             "v18446744073709551616",
             "v18446744073709551616",
             1,
-            "variables are v0 to v5",
+            "variables are v0 to v5 at most",
         ),
     ];
     for (text, word, place, wanted) in cases {

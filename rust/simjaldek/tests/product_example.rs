@@ -26,7 +26,7 @@ Both have the same values at the sixteen points. Elsewhere is unknown: compare t
 fn a_product_that_is_not_better() {
     let text = run(&["1", "8", "v0"]).unwrap();
     assert!(
-        text.contains("\nproduct c1 v0 *\ncost 3 0 2, not better than the formula's\n"),
+        text.contains("\nproduct c1 v0 *\ncost 3 0 2, not better than the formula's (it is the first product found, not the cheapest: a shorter one may exist)\n"),
         "{text}"
     );
 }
@@ -56,11 +56,11 @@ fn nothing_and_a_cut_index() {
 #[test]
 fn refused() {
     let told = |arguments: &[&str]| run(arguments).unwrap_err();
-    assert_eq!(told(&[]), "0 arguments where three are wanted");
-    assert_eq!(told(&["2", "32"]), "2 arguments where three are wanted");
+    assert_eq!(told(&[]), "three arguments are wanted, not 0");
+    assert_eq!(told(&["2", "32"]), "three arguments are wanted, not 2");
     assert_eq!(
         told(&["2", "32", "v0", "v1", "+"]),
-        "5 arguments where three are wanted"
+        "three arguments are wanted, not 5"
     );
     assert_eq!(told(&["x", "32", "v0"]), "VARIABLES is no number: x");
     assert_eq!(told(&["2", "", "v0"]), "WIDTH is no number: ");

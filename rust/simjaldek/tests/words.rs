@@ -178,6 +178,9 @@ fn texts_and_tokens() {
     let bad = Formula::new(&[9, 2], &[0, 1]).unwrap();
     let tokens: Vec<Token> = bad.tokens().collect();
     assert_eq!(tokens, [Token::Bad(9, 0), Token::Bad(2, 1)]);
+    assert_eq!(Token::Bad(2, 1).parts(), (2, 1));
+    assert_eq!(Token::Bad(2, 0).parts(), (255, 0));
+    assert_eq!(Token::Bad(0, 7).parts(), (255, 7));
     assert_eq!(bad.to_string(), "? ?");
     assert_eq!(Formula::new(&[0], &[]), None);
 }
