@@ -9,8 +9,9 @@
    1 Or, 2 Xor, 3 Add, 4 Mul.
 
    An array goes as its first element's address and its length. An array that is written must not overlap another.
-   `refusal`, where a reply has it, is 0 or a number of docs/SPECIFICATION.md's table; then no array was written, and the
-   rest of the reply is zeros. */
+   `refusal`, where a reply has it, is 0 for an answer, else why there is none: 1 variable count, 2 width, 3 limit, 4 array
+   too short, 5 word not below 2^w, 6 no formula or no gate, 7 too many atoms or pairs or a slot past the count, 8 order
+   list. Beside a refusal no array was written, and the rest of the reply is zeros. */
 #ifndef SIMJALDEK_H
 #define SIMJALDEK_H
 

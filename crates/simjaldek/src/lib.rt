@@ -1,4 +1,4 @@
-// The static library for Rust callers: each public call under a name of its own, over numbers and slices.
+// The static library for Rust and C callers: each public call under a name of its own, over numbers and slices.
 // A refusal is a number of 01's table, 0 for none; a row is the first sixteen words of its slice, and a shorter slice is refused 4.
 use expr_cost::Cost;
 use listing::ListingAnswer;
