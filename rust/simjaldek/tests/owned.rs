@@ -5,8 +5,8 @@ mod common;
 use common::{one_variable, p2, repeated, IndexBuffers};
 use simjaldek::lent::{self, Built};
 use simjaldek::{
-    splitmix64, Atom, Bank, FormulaBuf, Index, Pair, Points, Product, ProductAnswer, Row, Token,
-    PAIRS_MAX,
+    splitmix64, Atom, Bank, FormulaBuf, Index, Pair, PairSlot, Points, Product, ProductAnswer, Row,
+    Token, PAIRS_MAX,
 };
 
 fn parsed(text: &str) -> FormulaBuf {
@@ -222,4 +222,19 @@ fn differs(points: &Points, a: &FormulaBuf, b: &FormulaBuf) -> bool {
         let words: [u64; 3] = std::array::from_fn(|_| word());
         points.evaluate(a.as_formula(), &words) != points.evaluate(b.as_formula(), &words)
     })
+}
+
+#[test]
+fn views_of_copies_are_not_equal() {
+    let points = Points::standard(1, 8).unwrap();
+    let bank = Bank::build(&points, &[0; 16]).unwrap();
+    let (index, copy) = (
+        Index::build(&bank, 10).unwrap(),
+        Index::build(&bank, 10).unwrap(),
+    );
+    assert_eq!(index, copy);
+    let (pair, again) = (index.pair(PairSlot(3)), index.pair(PairSlot(3)));
+    assert_eq!(pair, again);
+    assert_ne!(pair, copy.pair(PairSlot(3)));
+    assert_ne!(pair, index.pair(PairSlot(4)));
 }
