@@ -59,6 +59,47 @@ pub enum Kind {
     RefusedFingerprint,
 }
 
+impl Kind {
+    /// Every kind, in order.
+    pub const ALL: [Kind; 35] = [
+        Kind::Bank,
+        Kind::FindRow,
+        Kind::AtomRow,
+        Kind::Index,
+        Kind::Candidates,
+        Kind::TwoAtoms,
+        Kind::ProductLoop,
+        Kind::Value,
+        Kind::Cost,
+        Kind::IsBetter,
+        Kind::FormulaRow,
+        Kind::FormulaTest,
+        Kind::Token,
+        Kind::Points,
+        Kind::Splitmix,
+        Kind::Fingerprint,
+        Kind::Bitmask,
+        Kind::Sums,
+        Kind::Inverse,
+        Kind::Listing,
+        Kind::Gate,
+        Kind::Residual,
+        Kind::Match,
+        Kind::RefusedBank,
+        Kind::RefusedIndex,
+        Kind::RefusedCandidates,
+        Kind::RefusedSearch,
+        Kind::RefusedFindRow,
+        Kind::RefusedAtomRow,
+        Kind::RefusedValue,
+        Kind::RefusedCost,
+        Kind::RefusedFormulaRow,
+        Kind::RefusedPoints,
+        Kind::RefusedGate,
+        Kind::RefusedFingerprint,
+    ];
+}
+
 /// The differences that docs/DIFFERENCES.md has.
 #[derive(Clone, Copy)]
 pub enum Known {

@@ -33,7 +33,7 @@ pub fn run(arguments: &[String]) -> Result<String, Box<dyn Error>> {
         return Err(format!("three arguments are wanted, not {}", arguments.len()).into());
     };
     let points = Points::standard(number("VARIABLES", variables)?, number("WIDTH", width)?)?;
-    told(&points, &points.read(text)?)
+    report(&points, &points.read(text)?)
 }
 
 /// An argument as a number.
@@ -43,7 +43,7 @@ fn number(name: &str, text: &str) -> Result<u32, String> {
 }
 
 /// The formula, the constants that are cut off, the sizes of bank and index, and the product or nothing.
-fn told(points: &Points, read: &Reading) -> Result<String, Box<dyn Error>> {
+fn report(points: &Points, read: &Reading) -> Result<String, Box<dyn Error>> {
     let formula = read.formula.as_formula();
     let cost = points.compute_cost(formula)?;
     let mut text = format!("formula {formula}\ncost {cost} (size, products, depth)\n");

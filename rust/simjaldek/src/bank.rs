@@ -105,11 +105,6 @@ impl Bank {
         (slot < self.len()).then_some(Atom { bank: self, slot })
     }
 
-    /// The row of a formula at the bank's points. Refuses 6.
-    pub fn row_of(&self, formula: Formula<'_>) -> Result<Row, FormulaError> {
-        self.points.row(formula)
-    }
-
     /// The atom with this row, or none. A row of other points is words like any others. Refuses 5.
     pub fn find_row(&self, row: &Row) -> Result<Option<Atom<'_>>, Refusal> {
         let found = lent::find_row(self.width(), self.lend(), row)?;

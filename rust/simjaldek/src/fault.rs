@@ -1,11 +1,8 @@
 //! Why tokens are no formula, and the error of the calls over a formula.
 
-use crate::{Formula, Refusal, Token};
+use crate::{Formula, Refusal, Token, FORMULA_TOKENS_MAX};
 use std::error::Error;
 use std::fmt;
-
-/// The most tokens of a formula.
-pub const FORMULA_TOKENS: usize = 64;
 
 /// What keeps tokens from being a formula: how many they are, else the first thing from left to right. Places count from 1.
 #[derive(Clone, Copy, Debug, PartialEq, Eq, Hash)]
@@ -51,36 +48,12 @@ pub enum Fault {
     },
 }
 
-impl Fault {
-    /// The place of the token that is wrong, from 1; none where it is no single token.
-    pub fn place(self) -> Option<usize> {
-        match self {
-            Fault::NoSuchToken { place, .. }
-            | Fault::NoSuchVariable { place, .. }
-            | Fault::OperandMissing { place, .. } => Some(place),
-            Fault::NoToken | Fault::TooLong { .. } | Fault::ValuesLeft { .. } => None,
-        }
-    }
-
-    /// The token that is wrong; none where it is no single token.
-    pub fn token(self) -> Option<Token> {
-        match self {
-            Fault::NoSuchToken {
-                opcode, operand, ..
-            } => Some(Token::Bad(opcode, operand)),
-            Fault::NoSuchVariable { number, .. } => Some(Token::Variable(number)),
-            Fault::OperandMissing { token, .. } => Some(token),
-            Fault::NoToken | Fault::TooLong { .. } | Fault::ValuesLeft { .. } => None,
-        }
-    }
-}
-
 impl fmt::Display for Fault {
     fn fmt(&self, f: &mut fmt::Formatter<'_>) -> fmt::Result {
         match *self {
-            Fault::NoToken => write!(f, "no token: a formula has 1 to {FORMULA_TOKENS}"),
+            Fault::NoToken => write!(f, "no token: a formula has 1 to {FORMULA_TOKENS_MAX}"),
             Fault::TooLong { tokens } => {
-                write!(f, "{tokens} tokens: a formula has 1 to {FORMULA_TOKENS}")
+                write!(f, "{tokens} tokens: a formula has 1 to {FORMULA_TOKENS_MAX}")
             }
             Fault::NoSuchToken {
                 place,
@@ -131,7 +104,7 @@ impl Formula<'_> {
         if self.is_empty() {
             return Some(Fault::NoToken);
         }
-        if self.len() > FORMULA_TOKENS {
+        if self.len() > FORMULA_TOKENS_MAX {
             return Some(Fault::TooLong { tokens: self.len() });
         }
         let mut values = 0;

@@ -143,9 +143,9 @@ impl<'b> Index<'b> {
         self.pair(slot).expect("a listed pair")
     }
 
-    /// The first product of two atoms, else of an atom and a pair, that has this row; in slot order, not the cheapest. Refuses 5.
+    /// The first product of two atoms, else of an atom and a pair, that has this row; in the order of the search, not the cheapest. Refuses 5.
     ///
-    /// The row must be one of the bank's own points ([`Bank::row_of`]): a row of other points is words like any others, and what is
+    /// The row must be one of the bank's own points ([`Points::row`](crate::Points::row)): a row of other points is words like any others, and what is
     /// found for it says nothing about the formula that it came from. [`product_for`](Index::product_for) can't go wrong so.
     pub fn product_search(&self, target: &Row) -> Result<ProductAnswer<'_>, Refusal> {
         let product = lent::product_search(self.width(), self.bank.lend(), self.lend(), target)?;
@@ -156,7 +156,7 @@ impl<'b> Index<'b> {
     ///
     /// A bank that was built for another target lacks this formula's seeds: [`Bank::build`] says what that means.
     pub fn product_for(&self, formula: Formula<'_>) -> Result<ProductAnswer<'_>, FormulaError> {
-        let target = self.bank.row_of(formula)?;
+        let target = self.bank.points().row(formula)?;
         Ok(self.product_search(&target)?)
     }
 

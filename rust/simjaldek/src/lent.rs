@@ -100,7 +100,7 @@ fn unless_refused<T>(refusal: u32, answer: T) -> Result<T, Refusal> {
     }
 }
 
-/// The first product of two atoms, else of an atom and a pair, that is the target; in slot order, not the cheapest. It has the target's
+/// The first product of two atoms, else of an atom and a pair, that is the target; in the order of the search, not the cheapest. It has the target's
 /// words at the points and may differ elsewhere. "Nothing" is certain only with a whole index of these very atoms at this width.
 /// Refuses 2, 4, 5, 7, 8.
 pub fn product_search(
@@ -128,7 +128,8 @@ pub fn product_search(
     let product = match reply.kind {
         1 => Product::Atoms(AtomSlot(reply.a), AtomSlot(reply.b)),
         2 => Product::AtomPair(AtomSlot(reply.a), PairSlot(reply.b)),
-        _ => Product::Nothing,
+        0 => Product::Nothing,
+        kind => panic!("{kind} is no kind of product: an archive of another commit?"),
     };
     unless_refused(reply.refusal, product)
 }

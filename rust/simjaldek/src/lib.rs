@@ -1,3 +1,5 @@
+//! Safe calls into Simjaldek, which looks for a product of small formulas that has the row of a long one.
+//!
 //! **What an answer means.** A row says what a formula does at sixteen points, and no more. So a product that is found has the
 //! formula's values at the sixteen points, and may differ from it elsewhere: at width 16 with three variables
 //! `v0 v1 & v2 & c2 &` is 0 at all of them, the search rightly answers `c0 c0 *`, and with all bits set in each variable the formula
@@ -24,8 +26,7 @@
 //! # Ok::<(), Box<dyn std::error::Error>>(())
 //! ```
 //!
-//! This crate has safe calls into Simjaldek: a bank of small formulas, an index of rows made from two of them by a gate, and a search
-//! for products. Each call goes to a function of the static library `libsimjaldek.a` that is proved, for all inputs, to give the
+//! There are a bank of small formulas, an index of rows made from two of them by a gate, and a search for products. Each call goes to a function of the static library `libsimjaldek.a` that is proved, for all inputs, to give the
 //! answer or the [`Refusal`] that the specification has; docs/CALLS.md of the repository names the promise of each. What is not proved
 //! is this crate: that its declarations fit the library, and what it does with an answer.
 //!
@@ -64,7 +65,7 @@ mod refusal;
 mod types;
 
 pub use bank::{Atom, Bank};
-pub use fault::{Fault, FormulaError, FORMULA_TOKENS};
+pub use fault::{Fault, FormulaError};
 pub use formula::{CutConstant, Formula, FormulaBuf, Token};
 pub use index::{Index, Pair, ProductAnswer};
 pub use lent::{
@@ -75,8 +76,8 @@ pub use parse::{ParseFormulaError, ParseTokenError};
 pub use points::{Points, ReadError, Reading};
 pub use refusal::Refusal;
 pub use types::{
-    AtomSlot, Cost, Gate, PairSlot, Point, Product, Row, ATOMS_MAX, ATOM_TOKENS, PAIRS_MAX,
-    POINT_WORDS, ROW_WORDS,
+    AtomSlot, Cost, Gate, PairSlot, Point, Product, Row, ATOMS_MAX, ATOM_TOKENS,
+    FORMULA_TOKENS_MAX, PAIRS_MAX, POINT_WORDS, ROW_WORDS,
 };
 
 /// Whether the tokens are a formula over so many variables: what refusal 6 tests. [`Formula::fault`] says what they lack. Any count of

@@ -94,6 +94,7 @@ impl Points {
     /// ```
     pub fn read(&self, text: &str) -> Result<Reading, ReadError> {
         let formula: FormulaBuf = text.parse()?;
+        // for its refusal
         self.compute_cost(formula.as_formula())?;
         let cut = formula.as_formula().cut_constants(self.width).collect();
         Ok(Reading { formula, cut })

@@ -5,6 +5,7 @@ use std::fmt;
 
 /// Why a call was refused: the least number of the specification's table that applies. A refused call changes no buffer.
 #[derive(Clone, Copy, Debug, PartialEq, Eq, Hash)]
+#[non_exhaustive]
 pub enum Refusal {
     /// 1: the variable count is not 1 to 6.
     VariableCount,
@@ -67,7 +68,7 @@ impl fmt::Display for Refusal {
         let condition = match self {
             Refusal::VariableCount => "variable count not 1 to 6",
             Refusal::Width => "width not 1 to 64",
-            Refusal::Limit => "L above 262,144",
+            Refusal::Limit => "limit above 262,144",
             Refusal::ShortArray => {
                 "a lent array shorter than stated, or than its count needs; fewer words than variables"
             }

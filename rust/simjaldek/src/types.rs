@@ -13,6 +13,8 @@ pub const ROW_WORDS: usize = 16;
 pub const POINT_WORDS: usize = 6;
 /// The token places of an atom.
 pub const ATOM_TOKENS: usize = 6;
+/// The most tokens of a formula.
+pub const FORMULA_TOKENS_MAX: usize = 64;
 
 /// Sixteen words: a formula's values at the sixteen points.
 pub type Row = [u64; ROW_WORDS];

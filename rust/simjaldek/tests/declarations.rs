@@ -1,6 +1,10 @@
 //! src/ffi.rs declares what the Rattle sources export: the same functions, parameters, answers and structs, in the same order.
 
-const FUNCTIONS: &str = include_str!("../../../crates/simjaldek/src/lib.rt");
+#[path = "common/exports.rs"]
+mod exports;
+
+use exports::{exports, Export};
+
 const STRUCTS: &str = include_str!("../../../crates/simjaldek_abi/src/lib.rt");
 const DECLARED: &str = include_str!("../src/ffi.rs");
 
@@ -19,32 +23,36 @@ fn items(list: &str) -> Vec<String> {
 }
 
 /// A parameter as C has it: a slice is a pointer and a length.
-fn as_c(parameter: &str) -> Vec<String> {
+fn as_c(name: &str, of: &str) -> Vec<String> {
     let slice = |open: &str, pointer: &str| {
-        let (name, of) = parameter.split_once(open)?;
-        let of = of.strip_suffix(']')?;
+        let element = of.strip_prefix(open)?.strip_suffix(']')?;
         let length = format!("{name}_len: usize");
-        Some(vec![format!("{name}: {pointer} {of}"), length])
+        Some(vec![format!("{name}: {pointer} {element}"), length])
     };
-    slice(": &[", "*const")
-        .or_else(|| slice(": &mut [", "*mut"))
-        .unwrap_or_else(|| vec![parameter.to_owned()])
+    slice("&[", "*const")
+        .or_else(|| slice("&mut [", "*mut"))
+        .unwrap_or_else(|| vec![format!("{name}: {of}")])
 }
 
-/// Each function of a text with its parameters as C has them, and its answer.
-fn functions(mut text: &str) -> Vec<(String, Vec<String>, String)> {
+/// A function with its parameters as C has them, and its answer.
+type Function = (String, Vec<String>, String);
+
+fn exported(export: Export) -> Function {
+    let parameters = export.parameters.iter();
+    let parameters = parameters.flat_map(|(name, of)| as_c(name, of)).collect();
+    (export.name.to_owned(), parameters, export.answer.to_owned())
+}
+
+/// Each function of src/ffi.rs.
+fn declared() -> Vec<Function> {
     let mut all = Vec::new();
-    while let Some((inside, after)) = between(text, "fn simjaldek_", ")") {
+    let mut text = DECLARED;
+    while let Some((inside, after)) = between(text, "pub fn ", ")") {
         let (name, list) = inside.split_once('(').expect("a function has parameters");
-        let list = list.trim_start();
-        let parameters = items(list).iter().flat_map(|item| as_c(item)).collect();
         let answer = after.trim_start().strip_prefix("-> ");
-        let answer = answer.and_then(|rest| rest.split([';', '\n']).next());
-        all.push((
-            name.to_owned(),
-            parameters,
-            answer.expect("it answers").to_owned(),
-        ));
+        let answer = answer.and_then(|rest| rest.split(';').next());
+        let answer = answer.expect("it answers").to_owned();
+        all.push((name.to_owned(), items(list.trim_start()), answer));
         text = after;
     }
     all
@@ -62,9 +70,8 @@ fn structs(mut text: &str) -> Vec<String> {
 
 #[test]
 fn declared_functions() {
-    let exported = functions(FUNCTIONS);
-    assert_eq!(exported.len(), FUNCTIONS.matches("#[no_mangle]").count());
-    assert_eq!(exported, functions(DECLARED));
+    let exported: Vec<Function> = exports().into_iter().map(exported).collect();
+    assert_eq!(exported, declared());
 }
 
 #[test]

@@ -36,23 +36,23 @@ fn faults_told() {
 
 #[test]
 fn faults_of_opcodes() {
-    let told = |ops: &[u8], operands: &[u64]| {
-        let formula = Formula::new(ops, operands).unwrap();
-        let fault = formula.fault(1).expect("no formula");
-        (fault.place(), fault.token(), fault.to_string())
+    let fault = |opcode, operand| {
+        let (ops, operands) = ([1, opcode], [0, operand]);
+        let formula = Formula::new(&ops, &operands).unwrap();
+        formula.fault(1).expect("no formula")
     };
-    let unknown = "opcode 9 at token 2: opcodes are 0 to 8";
-    assert_eq!(
-        told(&[1, 9], &[0, 3]),
-        (Some(2), Some(Token::Bad(9, 3)), unknown.to_owned())
-    );
-    let unused = "opcode 7 with operand 3 at token 2: opcodes 2 to 8 have operand 0";
-    assert_eq!(
-        told(&[1, 7], &[0, 3]),
-        (Some(2), Some(Token::Bad(7, 3)), unused.to_owned())
-    );
-    assert_eq!(Fault::NoToken.place(), None);
-    assert_eq!(Fault::ValuesLeft { values: 2 }.token(), None);
+    let unknown = fault(9, 3);
+    let (place, opcode, operand) = (2, 9, 3);
+    let expected = Fault::NoSuchToken {
+        place,
+        opcode,
+        operand,
+    };
+    assert_eq!(unknown, expected);
+    let told = "opcode 9 at token 2: opcodes are 0 to 8";
+    assert_eq!(unknown.to_string(), told);
+    let told = "opcode 7 with operand 3 at token 2: opcodes 2 to 8 have operand 0";
+    assert_eq!(fault(7, 3).to_string(), told);
 }
 
 #[test]

@@ -2,12 +2,15 @@
 //!
 //! `SIMJALDEK_HEADER=write cargo test -p simjaldek --test header` writes the file anew.
 
+#[path = "common/exports.rs"]
+mod exports;
+
+use exports::{comment_above, exports};
 use std::env;
 use std::fmt::Write;
 use std::fs;
 use std::process::Command;
 
-const FUNCTIONS: &str = include_str!("../../../crates/simjaldek/src/lib.rt");
 const STRUCTS: &str = include_str!("../../../crates/simjaldek_abi/src/lib.rt");
 const INCLUDE: &str = concat!(env!("CARGO_MANIFEST_DIR"), "/../../include");
 const HEADER: &str = concat!(env!("CARGO_MANIFEST_DIR"), "/../../include/simjaldek.h");
@@ -67,9 +70,8 @@ fn snake_case(name: &str) -> String {
     text
 }
 
-/// A field or parameter, `name: type`, as C declares it.
-fn c_declaration(item: &str) -> String {
-    let (name, of) = item.split_once(": ").expect("a name has a type");
+/// A field or parameter as C declares it.
+fn c_declaration(name: &str, of: &str) -> String {
     if let Some(element) = of.strip_prefix("&mut [") {
         let element = c_type(element.trim_end_matches(']'));
         return format!("{element} *{name}, size_t {name}_len");
@@ -85,48 +87,51 @@ fn c_declaration(item: &str) -> String {
     format!("{} {name}", c_type(of))
 }
 
-/// The items of a list, whatever lines they stand on.
-fn items(list: &str) -> impl Iterator<Item = &str> {
-    list.split(",\n")
-        .flat_map(|lines| lines.split(", "))
-        .map(|item| item.trim().trim_start_matches("pub ").trim_end_matches(','))
-        .filter(|item| !item.is_empty())
+/// Each struct with the comment above it.
+fn c_structs(text: &mut String) {
+    let mark = "#[repr(C)]\npub struct ";
+    for (place, _) in STRUCTS.match_indices(mark) {
+        let body = STRUCTS[place + mark.len()..].split('}').next();
+        let (name, fields) = body.and_then(|body| body.split_once(" {")).expect("fields");
+        let comment = comment_above(STRUCTS, place);
+        write!(text, "\n/* {comment} */\n{} {{\n", c_type(name)).unwrap();
+        for field in fields
+            .lines()
+            .filter_map(|line| line.trim().strip_prefix("pub "))
+        {
+            let (name, of) = field
+                .trim_end_matches(',')
+                .split_once(": ")
+                .expect("a type");
+            writeln!(text, "    {};", c_declaration(name, of)).unwrap();
+        }
+        text.push_str("};\n");
+    }
 }
 
-/// Each declaration after `mark` with the comment before it, up to its `end`.
-fn declared<'a>(text: &'a str, mark: &'a str, end: char) -> Vec<(&'a str, &'a str)> {
-    let mut all = Vec::new();
-    for (place, _) in text.match_indices(mark) {
-        let comment = text[..place].trim_end().rsplit("// ").next();
-        let body = text[place + mark.len()..].split(end).next();
-        all.push((comment.expect("a comment"), body.expect("an end")));
+/// Each function with the comment above it.
+fn c_functions(text: &mut String) {
+    for export in exports() {
+        let parameters = export.parameters.iter();
+        let parameters: Vec<String> = parameters
+            .map(|(name, of)| c_declaration(name, of))
+            .collect();
+        write!(
+            text,
+            "\n/* {} */\n{} {}(\n    {});\n",
+            export.comment,
+            c_type(export.answer),
+            export.name,
+            parameters.join(",\n    ")
+        )
+        .unwrap();
     }
-    all
 }
 
 fn header() -> String {
     let mut text = HEAD.to_owned();
-    for (comment, body) in declared(STRUCTS, "#[repr(C)]\npub struct ", '}') {
-        let (name, fields) = body.split_once(" {").expect("a struct has fields");
-        write!(text, "\n/* {comment} */\n{} {{\n", c_type(name)).unwrap();
-        for field in items(fields) {
-            writeln!(text, "    {};", c_declaration(field)).unwrap();
-        }
-        text.push_str("};\n");
-    }
-    let mark = "#[no_mangle]\npub extern \"C\" fn ";
-    for (comment, body) in declared(FUNCTIONS, mark, '{') {
-        let (name, rest) = body.split_once('(').expect("a function has parameters");
-        let (list, answer) = rest.split_once(") -> ").expect("a function answers");
-        let answer = c_type(answer.split_whitespace().next().expect("a type"));
-        let parameters: Vec<String> = items(list).map(c_declaration).collect();
-        let parameters = parameters.join(",\n    ");
-        write!(
-            text,
-            "\n/* {comment} */\n{answer} {name}(\n    {parameters});\n"
-        )
-        .unwrap();
-    }
+    c_structs(&mut text);
+    c_functions(&mut text);
     text + FOOT
 }
 
@@ -140,11 +145,6 @@ fn header_is_what_is_exported() {
     assert!(
         held == made,
         "include/simjaldek.h isn't what is exported: see the head of this test"
-    );
-    let exports = FUNCTIONS.matches("#[no_mangle]").count();
-    assert_eq!(
-        made.matches(" simjaldek_").count() - made.matches("struct simjaldek_").count(),
-        exports
     );
 }
 

@@ -73,7 +73,7 @@ fn row_of_other_points() {
     let index = Index::build(&bank, PAIRS_MAX).unwrap();
     let right = index.product_for(formula.as_formula()).unwrap();
     let row = points.row(formula.as_formula()).unwrap();
-    assert_eq!(bank.row_of(formula.as_formula()), Ok(row));
+    assert_eq!(bank.points().row(formula.as_formula()), Ok(row));
     assert_eq!(index.product_search(&row), Ok(right));
     assert_eq!(row_of(&points, right), Some(row));
     let slipped = other.row(formula.as_formula()).unwrap();
@@ -96,10 +96,15 @@ fn products_written_out() {
         let (b, c) = pair.atoms();
         let text = format!("{b} {c} {}", pair.gate().token());
         assert_eq!(pair.to_string(), text);
-        assert_eq!(bank.row_of(pair.postfix().as_formula()), Ok(*pair.row()));
+        assert_eq!(
+            bank.points().row(pair.postfix().as_formula()),
+            Ok(*pair.row())
+        );
         let answer = ProductAnswer::AtomPair(atoms[4], pair);
         let product = answer.postfix().expect("a product");
         assert_eq!(product.to_string(), format!("{} {text} *", atoms[4]));
+        let slots = Product::AtomPair(atoms[4].slot(), pair.slot());
+        assert_eq!(answer.slots(), slots);
     }
     let answer = ProductAnswer::Atoms(atoms[4], atoms[13]);
     let product = answer.postfix().expect("a product");
@@ -155,7 +160,7 @@ fn seeds_of_a_target() {
         .map(|point| std::array::from_fn(|i| point[0] >> i))
     {
         let seeded = Bank::build(&points, &target).unwrap();
-        assert!(seeded.len() <= plain.len() + 8);
+        assert!((plain.len()..=plain.len() + 8).contains(&seeded.len()));
         for (atom, seeded) in plain.atoms().zip(seeded.atoms()) {
             assert_eq!(atom.row(), seeded.row());
             assert!(seeded.cost() <= atom.cost());

@@ -1,31 +1,23 @@
 //! docs/CALLS.md has every exported call with its parameters, and a meaning for each name; docs/SPECIFICATION.md the sizes that are built.
 
-const FUNCTIONS: &str = include_str!("../../../crates/simjaldek/src/lib.rt");
+#[path = "common/exports.rs"]
+mod exports;
+
+use exports::exports;
+
 const CALLS: &str = include_str!("../../../docs/CALLS.md");
 const SPECIFICATION: &str = include_str!("../../../docs/SPECIFICATION.md");
 
-/// Each export's name and its parameters' names.
-fn exports() -> Vec<(&'static str, Vec<&'static str>)> {
-    let signatures = FUNCTIONS.split("fn simjaldek_").skip(1);
-    signatures
-        .map(|text| {
-            let (name, rest) = text.split_once('(').expect("a function has parameters");
-            let list = rest.split(')').next().expect("a list of parameters ends");
-            let names = list.split(',').filter_map(|item| item.split_once(':'));
-            (name, names.map(|(name, _)| name.trim()).collect())
-        })
-        .collect()
-}
-
 #[test]
 fn every_export_has_its_entry() {
-    let all = exports();
-    assert_eq!(all.len(), FUNCTIONS.matches("#[no_mangle]").count());
-    for (name, parameters) in all {
-        let entry = format!("`{name}({})`", parameters.join(", "));
-        let in_crate = format!("::{name}({})`", parameters.join(", "));
-        let there = CALLS.contains(&entry) || CALLS.contains(&in_crate);
-        assert!(there, "docs/CALLS.md has no {entry}");
+    for export in exports() {
+        let name = export.name.trim_start_matches("simjaldek_");
+        let parameters: Vec<&str> = export.parameters.iter().map(|(name, _)| *name).collect();
+        let entry = format!("{name}({})`", parameters.join(", "));
+        let there = ["`", "::"]
+            .iter()
+            .any(|before| CALLS.contains(&format!("{before}{entry}")));
+        assert!(there, "docs/CALLS.md has no `{entry}");
     }
 }
 
@@ -34,10 +26,14 @@ fn every_parameter_has_its_meaning() {
     let from = CALLS.find("## Vocabulary").expect("the vocabulary");
     let to = CALLS.find("## Reading an entry").expect("its end");
     let vocabulary = &CALLS[from..to];
-    for (name, parameters) in exports() {
-        for parameter in parameters {
+    for export in exports() {
+        for (parameter, _) in export.parameters {
             let there = vocabulary.contains(&format!("`{parameter}`"));
-            assert!(there, "the vocabulary has no {parameter}, of {name}");
+            assert!(
+                there,
+                "the vocabulary has no {parameter}, of {}",
+                export.name
+            );
         }
     }
 }

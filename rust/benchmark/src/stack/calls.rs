@@ -78,7 +78,7 @@ pub const CALLS: [Call; 29] = [
 
 const FULL_INDEX: &str = "six variables, 262,144 pairs";
 const BANK: &str = "six variables, eight seeds";
-const FORMULAS: &str = "64 tokens, depth 64 and 32 each way";
+const FORMULAS: &str = "64 tokens, depth 64 and 33 each way";
 const ROWS: &str = "rows, each gate";
 const WORDS: &str = "words";
 
