@@ -145,7 +145,7 @@ impl Ours {
 }
 
 impl BankBuffers {
-    fn new() -> Self {
+    pub fn new() -> Self {
         BankBuffers {
             lengths: vec![0; ATOMS_MAX],
             ops: vec![0; ATOM_TOKENS * ATOMS_MAX],
@@ -156,7 +156,7 @@ impl BankBuffers {
         }
     }
 
-    fn lend(&mut self) -> BankArrays<'_> {
+    pub fn lend(&mut self) -> BankArrays<'_> {
         BankArrays {
             lengths: &mut self.lengths,
             ops: &mut self.ops,
@@ -169,7 +169,7 @@ impl BankBuffers {
 }
 
 impl IndexBuffers {
-    fn new() -> Self {
+    pub fn new() -> Self {
         IndexBuffers {
             pairs: vec![0; 3 * PAIRS_MAX],
             rows: vec![0; ROW_WORDS * PAIRS_MAX],
@@ -178,7 +178,7 @@ impl IndexBuffers {
         }
     }
 
-    fn lend(&mut self) -> IndexArrays<'_> {
+    pub fn lend(&mut self) -> IndexArrays<'_> {
         IndexArrays {
             pairs: &mut self.pairs,
             rows: &mut self.rows,

@@ -3,11 +3,12 @@
 use std::fmt::Write;
 use std::hint::black_box;
 
-use simjaldek::lent::{self, BankArrays, IndexArrays, Tokens};
+use simjaldek::lent::{self, Tokens};
 use simjaldek::{
-    bitmask, AtomSlot, Bank, Cost, Formula, FormulaBuf, Index, Points, Product, Row, ATOMS_MAX,
-    ATOM_TOKENS, PAIRS_MAX, ROW_WORDS,
+    bitmask, AtomSlot, Bank, Cost, Formula, FormulaBuf, Index, Points, Product, Row, PAIRS_MAX,
 };
+
+use crate::setting::{BankBuffers, IndexBuffers};
 
 /// A call that is ready: what it takes is made.
 pub type Work = Box<dyn FnOnce() + Send>;
@@ -201,40 +202,20 @@ fn atom_row() -> Work {
 
 fn build_bank() -> Work {
     let (points, target) = (points(), target());
-    let mut lengths = vec![0; ATOMS_MAX];
-    let mut ops = vec![0; ATOM_TOKENS * ATOMS_MAX];
-    let mut operands = vec![0; ATOM_TOKENS * ATOMS_MAX];
-    let mut costs = vec![0; 3 * ATOMS_MAX];
-    let mut rows = vec![0; ROW_WORDS * ATOMS_MAX];
-    let mut work = vec![0; lent::work_len(0)];
+    let mut buffers = BankBuffers::new();
     Box::new(move || {
-        let arrays = BankArrays {
-            lengths: &mut lengths,
-            ops: &mut ops,
-            operands: &mut operands,
-            costs: &mut costs,
-            rows: &mut rows,
-            work: &mut work,
-        };
         let words = points.words().as_flattened();
-        assert!(lent::build_bank(NUM_VARS, WIDTH, words, &target, arrays).is_ok());
+        let built = lent::build_bank(NUM_VARS, WIDTH, words, &target, buffers.lend());
+        assert!(built.is_ok());
     })
 }
 
 fn build_index() -> Work {
     let bank = bank();
-    let mut pairs = vec![0; 3 * PAIRS_MAX];
-    let mut rows = vec![0; ROW_WORDS * PAIRS_MAX];
-    let mut order = vec![0; PAIRS_MAX];
-    let mut work = vec![0; lent::work_len(PAIRS_MAX)];
+    let mut buffers = IndexBuffers::new();
     Box::new(move || {
-        let arrays = IndexArrays {
-            pairs: &mut pairs,
-            rows: &mut rows,
-            order: &mut order,
-            work: &mut work,
-        };
-        assert!(lent::build_index(WIDTH, bank.lend(), PAIRS_MAX, arrays).is_ok());
+        let built = lent::build_index(WIDTH, bank.lend(), PAIRS_MAX, buffers.lend());
+        assert!(built.is_ok());
     })
 }
 
