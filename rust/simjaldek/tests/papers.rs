@@ -6,6 +6,7 @@ mod exports;
 use exports::exports;
 
 const CALLS: &str = include_str!("../../../docs/CALLS.md");
+const README: &str = include_str!("../../../README.md");
 const SPECIFICATION: &str = include_str!("../../../docs/SPECIFICATION.md");
 
 #[test]
@@ -46,4 +47,15 @@ mod sizes;
 fn the_table_of_sizes_is_what_is_built() {
     let table = sizes::table().expect("nothing is refused");
     assert!(SPECIFICATION.contains(&table), "{table}");
+    let shown = README.replace([',', '*'], "");
+    for width in [16, 32, 64] {
+        let lines = table
+            .lines()
+            .filter(|line| line.contains(&format!("| {width} | ")));
+        let lines: Vec<String> = lines
+            .map(|line| line.replacen(&format!("| {width} "), "", 1))
+            .collect();
+        assert_eq!(lines.len(), 6);
+        assert!(lines.iter().all(|line| shown.contains(line)), "{lines:?}");
+    }
 }
