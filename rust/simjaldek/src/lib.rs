@@ -1,12 +1,11 @@
-//! Safe calls into Simjaldek, which looks for a product of small formulas that has the row of a long one.
-//!
-//! **What an answer means.** A row says what a formula does at sixteen points, and no more. So a product that is found has the
-//! formula's values at the sixteen points, and may differ from it elsewhere: at width 16 with three variables
-//! `v0 v1 & v2 & c2 &` is 0 at all of them, the search rightly answers `c0 c0 *`, and with all bits set in each variable the formula
-//! is 2. Comparing the two beyond the points, as cobra does with samples, is for the layer above, before one takes the other's place.
-//! The product is the first that fits in the order of the search, not the cheapest: a shorter one may exist.
-//! "Nothing" is about the forms that were searched, a × b and a × (b g c) with a, b, c atoms of this bank and g a gate, and certain
-//! only where the index is whole: with six variables it is whole without seeds, and with a few of them cut at 262,144 pairs.
+//! Safe calls into Simjaldek, which looks for a product of small formulas that has the row of a long one. **What an answer means:** a
+//! row says what a formula does at sixteen points, and no more. So a product that is found has the formula's values at the sixteen
+//! points, and may differ from it elsewhere: at width 16 with three variables `v0 v1 & v2 & c2 &` is 0 at all of them, the search
+//! rightly answers `c0 c0 *`, and with all bits set in each variable the formula is 2. Comparing the two beyond the points, before one
+//! takes the other's place, is for the layer above, as cobra does with samples. The product is the first that fits in the order of the
+//! search, not the cheapest. "Nothing" is about the forms that were searched, a × b and a × (b g c) with a, b, c atoms of this bank and
+//! g a gate, and certain only where the index is whole: with six variables nearly every formula's own row makes more pairs than
+//! 262,144, and the index is cut there.
 //!
 //! ```
 //! use simjaldek::{Bank, Index, Points, PAIRS_MAX};
