@@ -4,8 +4,8 @@
 //! rightly answers `c0 c0 *`, and with all bits set in each variable the formula is 2. Comparing the two beyond the points, before one
 //! takes the other's place, is for the layer above, as cobra does with samples. The product is the first that fits in the order of the
 //! search, not the cheapest. "Nothing" is about the forms that were searched, a × b and a × (b g c) with a, b, c atoms of this bank and
-//! g a gate, and certain only where the index is whole: with six variables nearly every formula's own row makes more pairs than
-//! 262,144, and the index is cut there.
+//! g a gate, and certain only where the index is whole: with six variables and widths from 6 up most formulas' own rows make more
+//! pairs than 262,144, and the index is cut there.
 //!
 //! ```
 //! use simjaldek::{Bank, Index, Points, PAIRS_MAX};
