@@ -3,13 +3,13 @@ use mathlib.Core.Path.{_≡_, refl, sym, ap, ap₂, _∙_, subst}
 use mathlib.Core.Bool.{Bool, true, false, cond}
 use mathlib.Core.Logic.{_⊎_, inl, inr}
 use mathlib.Core.List.{List, [], _∷_, _++_, map, flatMap, append-assoc}
-use mathlib.Core.Option.{none, some, Option·none-ne-some}
+use mathlib.Core.Option.{Option, none, some, Option·map, orElse, Option·none-ne-some}
 use Prim.Native.Nat.{ℕ, zero, suc, _+_, _-_, _≤_, _<_}
 use native.Mathlib.Nat.{eq-or-lt-of-le}
 use native.Mathlib.Numerals.{add-one}
 use native.Mathlib.Omega.{arith}
 use lib.ListN.{getD, length}
-use Rattle.arrays.specs.Lists.{countUp, In, Place, keep, firstThat}
+use Rattle.arrays.specs.Lists.{countUp, In, Place, keep, firstThat, firstOf}
 
 pub false-true : false ≡ true → ⊥
 false-true p = let z : _≡_ {A = ℕ} 0 1 = cc in omega arith
@@ -214,3 +214,69 @@ module _ (test : ℕ → Bool) (n : ℕ) where
 
   pub up-none : none ≡ firstThat test (countUp 0 n) → (b : ℕ) → b < n → test b ≡ false
   up-none e b h = none-passes test (countUp 0 n) (sym e) b (in-count 0 n b (omega arith) (omega arith))
+
+-- ---- the first that passes, over lists joined and mapped
+pub first-append : {A : Type 0} (test : A → Bool) (xs ys : List A) → firstThat test (xs ++ ys) ≡ orElse (firstThat test xs) (firstThat test ys)
+unfolding firstThat orElse
+first-append test [] ys = refl
+first-append {A} test (x ∷ xs) ys = elim (bool-cases (test x)) [
+  | inl y ↦ first-yes test x (xs ++ ys) y ∙ ap (λ (o : Option A). orElse o (firstThat test ys)) (sym (first-yes test x xs y))
+  | inr n ↦
+      first-no test x (xs ++ ys) n ∙ first-append test xs ys
+      ∙ ap (λ (o : Option A). orElse o (firstThat test ys)) (sym (first-no test x xs n))
+]
+
+-- g carries one test to another
+pub first-map : {A B : Type 0} (test : B → Bool) (f : A → Bool) (g : A → B) → ((x : A) → test (g x) ≡ f x) → (l : List A) → firstThat test (map g l) ≡ Option·map g (firstThat f l)
+unfolding firstThat
+first-map test f g same [] = refl
+first-map test f g same (x ∷ l) = elim (bool-cases (f x)) [
+  | inl y ↦ first-yes test (g x) (map g l) (same x ∙ y) ∙ ap (Option·map g) (sym (first-yes f x l y))
+  | inr n ↦ first-no test (g x) (map g l) (same x ∙ n) ∙ first-map test f g same l ∙ ap (Option·map g) (sym (first-no f x l n))
+]
+
+-- one slot more
+pub up-more : (test : ℕ → Bool) (n : ℕ) → firstThat test (countUp 0 (n + 1)) ≡ orElse (firstThat test (countUp 0 n)) (firstThat test (n ∷ []))
+unfolding countUp
+up-more test n =
+    let here : 0 + n ≡ n = omega arith in
+    ap (firstThat test) (count-add 0 n 1 ∙ ap (λ (i : ℕ). countUp 0 n ++ countUp i 1) here) ∙ first-append test (countUp 0 n) (n ∷ [])
+
+-- ---- the first answer along a list
+-- part after part
+pub first-flat : {A B : Type 0} (test : B → Bool) (f : A → List B) (l : List A) → firstThat test (flatMap f l) ≡ firstOf (λ (x : A). firstThat test (f x)) l
+unfolding firstThat firstOf flatMap
+first-flat test f [] = refl
+first-flat {A} {B} test f (x ∷ l) =
+    first-append test (f x) (flatMap f l) ∙ ap (λ (o : Option B). orElse (firstThat test (f x)) o) (first-flat test f l)
+
+-- two that answer alike
+pub first-alike : {A B : Type 0} (f g : A → Option B) (l : List A) → ((x : A) → In x l → f x ≡ g x) → firstOf f l ≡ firstOf g l
+unfolding firstOf
+first-alike f g [] h = refl
+first-alike {A} {B} f g (x ∷ l) h = ap₂ (λ (o p : Option B). orElse o p) (h x (inl refl)) (first-alike f g l (λ y i. h y (inr i)))
+
+-- counting up to n
+module _ {B : Type 0} (f : ℕ → Option B) (n : ℕ) where
+  pub of-start : firstOf f (countUp 0 (n - 0)) ≡ firstOf f (countUp 0 n)
+  of-start = ap (firstOf f) (count-start n)
+
+  pub of-hit : (i : ℕ) → i < n → (x : B) → f i ≡ some x → firstOf f (countUp i (n - i)) ≡ some x
+  unfolding firstOf orElse
+  of-hit i h x e = ap (firstOf f) (count-step i n h) ∙ ap (λ (o : Option B). orElse o (firstOf f (countUp (i + 1) (n - (i + 1))))) e
+
+  pub of-miss : (i : ℕ) → i < n → f i ≡ none → firstOf f (countUp (i + 1) (n - (i + 1))) ≡ firstOf f (countUp i (n - i))
+  unfolding firstOf orElse
+  of-miss i h e = sym (ap (firstOf f) (count-step i n h) ∙ ap (λ (o : Option B). orElse o (firstOf f (countUp (i + 1) (n - (i + 1))))) e)
+
+  pub of-end : (i : ℕ) → n ≤ i → firstOf f (countUp i (n - i)) ≡ none
+  unfolding firstOf
+  of-end i h = ap (firstOf f) (count-end i n h)
+
+  -- from a on, where it answers nothing before
+  pub of-from : (a : ℕ) → a ≤ n → ((b : ℕ) → b < a → f b ≡ none) → firstOf f (countUp a (n - a)) ≡ firstOf f (countUp 0 n)
+  of-from zero h none-before = of-start
+  of-from (suc a) h none-before =
+      ap (λ (i : ℕ). firstOf f (countUp i (n - i))) (sym (add-one a))
+      ∙ of-miss a (omega arith) (none-before a (omega arith))
+      ∙ of-from a (omega arith) (λ b l. none-before b (omega arith))

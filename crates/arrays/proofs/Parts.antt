@@ -8,7 +8,7 @@ use native.Mathlib.Numerals.{add-one}
 use native.Mathlib.Omega.{arith}
 use borrow.Rule.Slice.PartMut.{putMid, post-is}
 use lib.ListN.{length, getD, set, take, drop, length-take, length-drop, length-append}
-use lib.Seq.{getD-take, getD-drop, take-at, drop-at, length-take-le, drop-drop, take-append-add, drop-append-add, take-add, take-take, set-split}
+use lib.Seq.{getD-take, getD-drop, take-all, take-at, drop-at, length-take-le, drop-drop, take-append-add, drop-append-add, take-add, take-take, set-split}
 use Rattle.arrays.specs.Parts.{partAt, putPart, encode}
 
 -- ---- one part
@@ -19,6 +19,11 @@ length-part s l k h = simp (length-take, length-drop) (omega arith)
 pub getD-part : (s : ℕ) (l : List ℕ) (k j : ℕ) → j < s → getD (partAt s l k) j 0 ≡ getD l (s * k + j) 0
 unfolding partAt
 getD-part s l k j h = getD-take s (drop (s * k) l) j 0 h ∙ getD-drop (s * k) l j 0
+
+-- a list that is one part
+pub part-whole : (s : ℕ) (l : List ℕ) → length l ≡ s → partAt s l 0 ≡ l
+unfolding partAt
+part-whole s l e = let none : s * 0 ≡ 0 = mul-zero s in rw none (take-all s l (omega arith))
 
 -- what the loan of the part `&l[s * k..s * k + s]` holds
 pub part-is : (s : ℕ) (l : List ℕ) (k : ℕ) → take (s * k + s - s * k) (drop (s * k) l) ≡ partAt s l k

@@ -3,7 +3,7 @@ use mathlib.Core.Path.{_≡_}
 use mathlib.Core.Bool.{Bool, cond}
 use mathlib.Core.Logic.{_⊎_}
 use mathlib.Core.List.{List, [], _∷_}
-use mathlib.Core.Option.{Option, none, some}
+use mathlib.Core.Option.{Option, none, some, orElse}
 use Prim.Native.Nat.{ℕ, zero, suc, _<_}
 use lib.ListN.{length, getD}
 
@@ -32,3 +32,9 @@ keep test (x ∷ l) = cond (test x) (x ∷ keep test l) (keep test l)
 unfoldable pub firstThat : {A : Type 0} → (A → Bool) → List A → Option A
 firstThat test [] = none
 firstThat test (x ∷ l) = cond (test x) (some x) (firstThat test l)
+
+-- the first answer that f gives along a list, none if it gives none
+unfoldable pub firstOf : {A B : Type 0} → (A → Option B) → List A → Option B
+unfolding orElse
+firstOf f [] = none
+firstOf f (x ∷ l) = orElse (f x) (firstOf f l)

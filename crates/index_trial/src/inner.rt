@@ -20,19 +20,6 @@ pub struct Tally {
     pub cut: bool,
 }
 
-// The number of a gate.
-fn gate_number(g: Gate) -> u32
-    ensures { λ r. ⌜ r ≡ gateNumber g ⌝ }
-{
-    match g {
-        Gate::And => 0,
-        Gate::Or => 1,
-        Gate::Xor => 2,
-        Gate::Add => 3,
-        Gate::Mul => 4,
-    }
-}
-
 // The gate of rows b and c, straight from the lent rows: so LLVM makes vectors of it.
 fn gate_of_rows(atoms: &[u64], b: AtomSlot, c: AtomSlot, g: Gate, w: u32) -> [u64; 16]
     requires { ⌜ (16 * b .0 + 16 ≤ length (now atoms)) × (16 * c .0 + 16 ≤ length (now atoms)) × (w ≤ 64) ⌝ }
@@ -64,7 +51,7 @@ fn write_pair(part: &mut [u32], g: Gate, b: AtomSlot, c: AtomSlot)
     requires { ⌜ length (now part) ≡ 3 ⌝ }
     ensures { λ _. ⌜ now (part .exit) ≡ gateNumber g ∷ (b .0 ∷ (c .0 ∷ [])) ⌝ }
 {
-    part[0] = gate_number(g);
+    part[0] = row_gates::inner::gate_number(g);
     part[1] = b.0;
     part[2] = c.0;
 }

@@ -9,7 +9,7 @@ use lib.Pow.{pow-pos}
 use lib.Bits.{bitAnd, bitOr, bitXor, differ, and-comm, or-comm, xor-comm, and-lt, or-lt, xor-lt, and-mod, or-mod, xor-mod, xor-step, xor-shr, xor-zero-r}
 use Rattle.arith.specs.Cong.{Cong}
 use Rattle.arith.specs.Word.{subOf}
-use Rattle.arith.proofs.Congruence.{cong-trans, cong-add, cong-mul, cong-mod, cong-sym, sub-add}
+use Rattle.arith.proofs.Congruence.{cong-trans, cong-eq, cong-add, cong-mul, cong-mod, cong-sym, cong-sub, sub-add}
 use Rattle.limits.proofs.Refusals.{true-not-false}
 use Rattle.row_gates.specs.Gates.{gateNumber, gateAt, gateOf, residualOf, invertible}
 use Rattle.row_gates.specs.declared.Gate.{Gate}
@@ -79,12 +79,24 @@ xor-cancel =
     ∙ ap₂ (λ (x y : ℕ). x * 2 + y) (ih (t / 2)) (digit-cancel (t % 2) (a % 2) (mod-lt t (pow-pos 1)) (mod-lt a (pow-pos 1)))
     ∙ div-add-mod' t 2)
 
--- the gate of a and the residual of the target by a is the target, for words below 2 ^ w
-pub residual-completes : (g : Gate) → invertible g ≡ true → (w target a : ℕ) → target < 2 ^ w → a < 2 ^ w → gateOf g w a (residualOf g w target a) ≡ target
+-- the gate of a and the residual of the target by a is the target, for a target below 2 ^ w
+pub residual-completes : (g : Gate) → invertible g ≡ true → (w target a : ℕ) → target < 2 ^ w → gateOf g w a (residualOf g w target a) ≡ target
 unfolding gateOf residualOf
-residual-completes And i w t a ht ha = absurd (true-not-false (sym i))
-residual-completes Or i w t a ht ha = absurd (true-not-false (sym i))
-residual-completes Mul i w t a ht ha = absurd (true-not-false (sym i))
-residual-completes Xor i w t a ht ha = xor-cancel a t
-residual-completes Add i w t a ht ha =
+residual-completes And i w t a ht = absurd (true-not-false (sym i))
+residual-completes Or i w t a ht = absurd (true-not-false (sym i))
+residual-completes Mul i w t a ht = absurd (true-not-false (sym i))
+residual-completes Xor i w t a ht = xor-cancel a t
+residual-completes Add i w t a ht =
     ap (λ (x : ℕ). x % 2 ^ w) (add-comm a (subOf (2 ^ w) t a)) ∙ sub-add (2 ^ w) t a (pow-pos w) .same ∙ mod-eq-of-lt ht
+
+-- it is the only word below 2 ^ w that does so
+pub residual-only : (g : Gate) → invertible g ≡ true → (w target a b : ℕ) → b < 2 ^ w → gateOf g w a b ≡ target → b ≡ residualOf g w target a
+unfolding gateOf residualOf
+residual-only And i w t a b hb e = absurd (true-not-false (sym i))
+residual-only Or i w t a b hb e = absurd (true-not-false (sym i))
+residual-only Mul i w t a b hb e = absurd (true-not-false (sym i))
+residual-only Xor i w t a b hb e =
+    sym (xor-cancel a b) ∙ xor-comm a (bitXor b a) ∙ ap (λ (x : ℕ). bitXor x a) (xor-comm b a ∙ e)
+residual-only Add i w t a b hb e =
+    sym (mod-eq-of-lt hb)
+    ∙ cong-sub (2 ^ w) t a b (pow-pos w) (cong-trans (cong-eq (2 ^ w) (add-comm b a)) (cong-trans (cong-sym (cong-mod (2 ^ w) (a + b))) (cong-eq (2 ^ w) e)))

@@ -8,7 +8,7 @@ use borrow.Author.Tests.{eq-eqb, ne-eqb}
 use lib.ListN.{length, getD}
 use Rattle.arrays.proofs.Fill.{length-zipWith, getD-zipWith}
 use Rattle.limits.proofs.Refusals.{true-not-false}
-use Rattle.row_gates.specs.Gates.{gateOf, gateRow, sameRow}
+use Rattle.row_gates.specs.Gates.{gateOf, gateRow, residualOf, residualRow, sameRow}
 use Rattle.row_gates.specs.declared.Gate.{Gate}
 use Rattle.row_gates.proofs.GateLaws.{gate-comm}
 
@@ -19,6 +19,15 @@ length-gateRow g w a b e = length-zipWith (gateOf g w) a b e
 pub getD-gateRow : (g : Gate) (w : ℕ) (a b : List ℕ) (k : ℕ) → k < length a → k < length b → getD (gateRow g w a b) k 0 ≡ gateOf g w (getD a k 0) (getD b k 0)
 unfolding gateRow
 getD-gateRow g w a b k h l = getD-zipWith (gateOf g w) a b k h l
+
+-- the same of residuals
+pub length-residualRow : (g : Gate) (w : ℕ) (t a : List ℕ) → length t ≡ length a → length (residualRow g w t a) ≡ length t
+unfolding residualRow
+length-residualRow g w t a e = length-zipWith (residualOf g w) t a e
+
+pub getD-residualRow : (g : Gate) (w : ℕ) (t a : List ℕ) (k : ℕ) → k < length t → k < length a → getD (residualRow g w t a) k 0 ≡ residualOf g w (getD t k 0) (getD a k 0)
+unfolding residualRow
+getD-residualRow g w t a k h l = getD-zipWith (residualOf g w) t a k h l
 
 -- a gate on rows commutes, as it does on words
 pub row-comm : (g : Gate) (w : ℕ) (x y : List ℕ) → gateRow g w x y ≡ gateRow g w y x

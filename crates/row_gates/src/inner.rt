@@ -4,7 +4,7 @@ use crate::ROW_WORDS;
 use crate::RowAnswer;
 ghost use mathlib.Core.Path.{_≡_};
 ghost use Prim.Native.Nat.{_≤_};
-ghost use Rattle.row_gates.specs.Gates.{gateAt, gateOf, gateRow, residualOf, residualRow, sameRow, refusedRow};
+ghost use Rattle.row_gates.specs.Gates.{gateNumber, gateAt, gateOf, gateRow, residualOf, residualRow, sameRow, refusedRow};
 
 // Zeros beside a refusal.
 pub fn refused_row(refusal: u32) -> RowAnswer
@@ -26,6 +26,19 @@ pub fn gate_at(k: u32) -> Gate
         2 => Gate::Xor,
         3 => Gate::Add,
         _ => Gate::Mul,
+    }
+}
+
+// The number of a gate.
+pub fn gate_number(g: Gate) -> u32
+    ensures { λ r. ⌜ r ≡ gateNumber g ⌝ }
+{
+    match g {
+        Gate::And => 0,
+        Gate::Or => 1,
+        Gate::Xor => 2,
+        Gate::Add => 3,
+        Gate::Mul => 4,
     }
 }
 

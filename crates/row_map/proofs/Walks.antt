@@ -1,36 +1,34 @@
 -- What is known on the way along a chain, from its newest slot to its oldest. Assumes nothing.
-use mathlib.Core.Path.{_≡_, sym, ap, _∙_}
-use mathlib.Core.List.{List}
+use mathlib.Core.Path.{_≡_, sym, _∙_}
 use Prim.Native.Nat.{ℕ, _+_, _≤_, _<_}
 use native.Mathlib.Decide.{decLt}
 use native.Mathlib.Omega.{arith}
 use borrow.Author.Count.{below-more}
-use Rattle.arrays.specs.Parts.{partAt}
-use Rattle.row_map.specs.Map.{homeOf, Top}
+use Rattle.row_map.specs.Map.{Top}
 
--- at the entry cur of the row's chain: no slot from cur on has the row
-pub record Walk (rows row : List ℕ) (bits n cur : ℕ) : Type 0 where
+-- slots that are looked for, all in chain h; at the entry cur of that chain: no slot from cur on is one of them
+pub record Walk (home : ℕ → ℕ) (h : ℕ) (asked : ℕ → Type 0) (n cur : ℕ) : Type 0 where
   pub within : cur ≤ n
-  pub home : (s : ℕ) → cur ≡ s + 1 → homeOf bits (partAt 16 rows s) ≡ homeOf bits row
-  pub none : (t : ℕ) → cur ≤ t → t < n → partAt 16 rows t ≡ row → ⊥
+  pub homed : (s : ℕ) → cur ≡ s + 1 → home s ≡ h
+  pub none : (t : ℕ) → cur ≤ t → t < n → asked t → ⊥
 
--- at the chain's head
-pub walk-start : (rows row : List ℕ) (bits n h v : ℕ) → h ≡ homeOf bits row → Top rows bits n h v → Walk rows row bits n v
-walk-start rows row bits n h v e top = record {
-  within = top .within;
-  home = λ s es. top .home s es ∙ e;
-  none = λ t le lt same. top .newest t le lt (ap (homeOf bits) same ∙ sym e);
-}
+module _ (home : ℕ → ℕ) (h : ℕ) (asked : ℕ → Type 0) (there : (t : ℕ) → asked t → home t ≡ h) (n : ℕ) where
+  -- at the chain's head
+  pub walk-start : (v : ℕ) → Top home n h v → Walk home h asked n v
+  walk-start v top = record {
+    within = top .within;
+    homed = top .homed;
+    none = λ t le lt is. top .newest t le lt (there t is);
+  }
 
--- past a slot whose row is another
-pub walk-on : (rows row : List ℕ) (bits n cur s v : ℕ) → cur ≡ s + 1 → (partAt 16 rows s ≡ row → ⊥) → Top rows bits s (homeOf bits (partAt 16 rows s)) v
-    → Walk rows row bits n cur → Walk rows row bits n v
-walk-on rows row bits n cur s v ec other top walk = record {
-  within = omega (arith, top .within, walk .within);
-  home = λ u eu. top .home u eu ∙ walk .home s ec;
-  none = λ t le lt same. elim (decLt t cur) [
-    | yes before ↦ below-more (λ (k : ℕ). v ≤ k → partAt 16 rows k ≡ row → ⊥) s
-        (λ k lk lv sk. top .newest k lv lk (ap (homeOf bits) sk ∙ sym (walk .home s ec))) (λ _. other) t (omega arith) le same
-    | no after ↦ walk .none t (omega arith) lt same
-  ];
-}
+  -- past a slot that isn't looked for
+  pub walk-on : (cur s v : ℕ) → cur ≡ s + 1 → (asked s → ⊥) → Top home s (home s) v → Walk home h asked n cur → Walk home h asked n v
+  walk-on cur s v ec other top walk = record {
+    within = omega (arith, top .within, walk .within);
+    homed = λ u eu. top .homed u eu ∙ walk .homed s ec;
+    none = λ t le lt is. elim (decLt t cur) [
+      | yes before ↦ below-more (λ (k : ℕ). v ≤ k → asked k → ⊥) s
+          (λ k lk lv ik. top .newest k lv lk (there k ik ∙ sym (walk .homed s ec))) (λ _. other) t (omega arith) le is
+      | no after ↦ walk .none t (omega arith) lt is
+    ];
+  }

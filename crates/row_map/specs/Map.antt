@@ -12,17 +12,25 @@ use Rattle.row_map.specs.declared.Lookup.the-variants.{At, Free}
 unfoldable pub homeOf : ℕ → List ℕ → ℕ
 homeOf bits row = fingerprintOf row % 2 ^ bits
 
+-- ---- chains: each slot t is in chain `home t`
 -- entry v is that of the newest slot below n in chain h: the slot plus one, or 0 where the chain has none
-pub record Top (rows : List ℕ) (bits n h v : ℕ) : Type 0 where
+pub record Top (home : ℕ → ℕ) (n h v : ℕ) : Type 0 where
   pub within : v ≤ n
-  pub home : (s : ℕ) → v ≡ s + 1 → homeOf bits (partAt 16 rows s) ≡ h
-  pub newest : (t : ℕ) → v ≤ t → t < n → homeOf bits (partAt 16 rows t) ≡ h → ⊥
+  pub homed : (s : ℕ) → v ≡ s + 1 → home s ≡ h
+  pub newest : (t : ℕ) → v ≤ t → t < n → home t ≡ h → ⊥
 
--- 01, From heap ..: `ValMap` becomes a lent work area of 4 × (L + 479) u32. The area holds the map of the first n rows:
--- the heads of 2^bits chains, and then for each slot a link to the newest slot below it in its chain
+-- the area holds the chains of the first n slots: the heads of 2^bits chains, and then for each slot a link to the newest slot below it in its chain
+pub record Chained (work : List ℕ) (home : ℕ → ℕ) (bits n : ℕ) : Type 0 where
+  pub heads : (h : ℕ) → h < 2 ^ bits → Top home n h (getD work h 0)
+  pub links : (t : ℕ) → t < n → Top home t (home t) (getD work (2 ^ bits + t) 0)
+
+-- the chain of each row of an array
+abbrev pub homesOf : ℕ → List ℕ → ℕ → ℕ
+homesOf bits rows t = homeOf bits (partAt 16 rows t)
+
+-- 01, From heap ..: `ValMap` becomes a lent work area of 4 × (L + 479) u32. The area holds the map of the first n rows
 pub record Held (work rows : List ℕ) (bits n : ℕ) : Type 0 where
-  pub heads : (h : ℕ) → h < 2 ^ bits → Top rows bits n h (getD work h 0)
-  pub links : (t : ℕ) → t < n → Top rows bits t (homeOf bits (partAt 16 rows t)) (getD work (2 ^ bits + t) 0)
+  pub chained : Chained work (homesOf bits rows) bits n
 
 -- what `clear` leaves: no chain has a slot, and the links are as they were
 unfoldable pub cleared : ℕ → List ℕ → List ℕ
@@ -59,6 +67,6 @@ pub record Room (work : List ℕ) (bits n h : ℕ) : Type 0 where
   pub entry : n + 1 < 2 ^ 32
   pub chain : h < 2 ^ bits
 
--- what `insert` does: whatever the rows are, if h is the chain of row n, then the map of the first n is one of the first n + 1
+-- what `insert` does: whatever the slots' chains are, if h is that of slot n, then the chains of the first n are those of the first n + 1
 pub record Inserted (work work′ : List ℕ) (bits n h : ℕ) : Type 0 where
-  pub held : (rows : List ℕ) → Held work rows bits n → h ≡ homeOf bits (partAt 16 rows n) → Held work′ rows bits (n + 1)
+  pub chained : (home : ℕ → ℕ) → Chained work home bits n → h ≡ home n → Chained work′ home bits (n + 1)

@@ -1,36 +1,15 @@
 -- Laws of the first that passes a test, over trials, one atom's after the other's. Assumes nothing.
 use mathlib.Core.Path.{_≡_, refl, sym, ap, _∙_}
 use mathlib.Core.Bool.{Bool}
-use mathlib.Core.List.{List, [], _∷_, _++_, map, flatMap}
-use mathlib.Core.Logic.{inl, inr}
+use mathlib.Core.List.{List, map, flatMap}
 use mathlib.Core.Option.{Option, none, some, Option·map, orElse}
 use Prim.Native.Nat.{ℕ, _+_, _-_, _≤_, _<_}
 use lib.ListN.{getD}
 use Rattle.arrays.specs.Lists.{countUp, firstThat}
-use Rattle.arrays.proofs.Lists.{bool-cases, count-step, count-end, count-start, first-yes, first-no}
+use Rattle.arrays.proofs.Lists.{count-step, count-end, count-start, first-append, first-map}
 use Rattle.index_order.specs.Order.{firstWord}
 use Rattle.search_product_trial.specs.Trying.{Product, fitting, slotsFor, withAtoms, withPairs, tryEverything}
 use Rattle.search_product_trial.specs.Steps.{fitsAt}
-
--- ---- lists joined and mapped
-pub first-append : {A : Type 0} (test : A → Bool) (xs ys : List A) → firstThat test (xs ++ ys) ≡ orElse (firstThat test xs) (firstThat test ys)
-unfolding firstThat orElse
-first-append test [] ys = refl
-first-append {A} test (x ∷ xs) ys = elim (bool-cases (test x)) [
-  | inl y ↦ first-yes test x (xs ++ ys) y ∙ ap (λ (o : Option A). orElse o (firstThat test ys)) (sym (first-yes test x xs y))
-  | inr n ↦
-      first-no test x (xs ++ ys) n ∙ first-append test xs ys
-      ∙ ap (λ (o : Option A). orElse o (firstThat test ys)) (sym (first-no test x xs n))
-]
-
--- g carries one test to another
-pub first-map : {A B : Type 0} (test : B → Bool) (f : A → Bool) (g : A → B) → ((x : A) → test (g x) ≡ f x) → (l : List A) → firstThat test (map g l) ≡ Option·map g (firstThat f l)
-unfolding firstThat
-first-map test f g same [] = refl
-first-map test f g same (x ∷ l) = elim (bool-cases (f x)) [
-  | inl y ↦ first-yes test (g x) (map g l) (same x ∙ y) ∙ ap (Option·map g) (sym (first-yes f x l y))
-  | inr n ↦ first-no test (g x) (map g l) (same x ∙ n) ∙ first-map test f g same l ∙ ap (Option·map g) (sym (first-no f x l n))
-]
 
 -- ---- trials: each a with the slots of l a
 abbrev pub trials : (ℕ → ℕ → Product) → (ℕ → List ℕ) → ℕ → ℕ → List Product

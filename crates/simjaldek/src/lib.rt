@@ -6,6 +6,7 @@ use simjaldek_abi::CostReply;
 use simjaldek_abi::DrawReply;
 use simjaldek_abi::PointsReply;
 use simjaldek_abi::Reply;
+use simjaldek_abi::ResidualReply;
 use simjaldek_abi::RowReply;
 use simjaldek_abi::TextReply;
 use simjaldek_abi::TokenReply;
@@ -29,8 +30,9 @@ ghost use Rattle.bank_parts.specs.Parts.{arrays};
 ghost use Rattle.bank_lookup.specs.Lookup.{found, handRefusal};
 ghost use Rattle.index.specs.Build.{arraysOf};
 ghost use Rattle.search_product.specs.Answer.{product};
+ghost use Rattle.search_residual.specs.Answer.{completion};
 ghost use Rattle.simjaldek_abi.specs.Slices.{rowIn, shortRow, rowRefusal, pointsIn, pointsRefusal, twoShort, threeShort, gateRefusal};
-ghost use Rattle.simjaldek_abi.specs.Reply.{orElse, rowOrElse, wordReply, costReply, pointsReply, drawReply, costFrom, markOf, matchReply, optionReply, numberReply, productReply, tokenReply};
+ghost use Rattle.simjaldek_abi.specs.Reply.{orElse, rowOrElse, wordReply, costReply, pointsReply, drawReply, costFrom, markOf, matchReply, optionReply, numberReply, productReply, residualReply, tokenReply};
 ghost use Rattle.simjaldek.specs.Beside.{Indexed, Listed, BankReplied, Texted};
 
 // `search_product::product_search`: kind 0 nothing, 1 the atoms a and b, 2 the atom a and the pair b. Refuses 2, 4, 5, 7, 8.
@@ -58,6 +60,33 @@ pub extern "C" fn simjaldek_product_search(
         pair_count,
         pair_rows,
         order,
+        row,
+    ))
+}
+
+// `search_residual::residual_search`: kind 0 nothing, 1 the atoms a and b, 2 the atom a and the pair b; `gate` is the outer gate's number, 2 Xor or 3 Add. Refuses 2, 4, 5, 7.
+#[no_mangle]
+pub extern "C" fn simjaldek_residual_search(
+    w: u32,
+    atom_count: usize,
+    atom_rows: &[u64],
+    pair_count: usize,
+    pair_rows: &[u64],
+    target: &[u64],
+) -> ResidualReply
+    ensures { λ r. ⌜ r ≡ residualReply (orElse (rowRefusal w (now (target .entry))) (completion w «atom_count» (now («atom_rows» .entry)) «pair_count» (now («pair_rows» .entry)) (rowIn (now (target .entry))))) ⌝ }
+{
+    let refusal = slices::row_refusal(w, target);
+    if refusal != 0 {
+        return replies::refused_residual(refusal);
+    }
+    let row = row_lent::inner::load_row(target, 0);
+    replies::of_residual(search_residual::residual_search(
+        w,
+        atom_count,
+        atom_rows,
+        pair_count,
+        pair_rows,
         row,
     ))
 }

@@ -7,7 +7,7 @@ use lib.ListN.{replicate}
 use Rattle.limits.specs.Refusal.{unlessRefused, Outcome, refused, answer}
 use Rattle.row_gates.specs.declared.Gate.{Gate}
 use Rattle.row_gates.specs.declared.RowAnswer.{RowAnswer}
-use Rattle.row_gates.specs.Gates.{applied, residual}
+use Rattle.row_gates.specs.Gates.{gateNumber, applied, residual}
 use Rattle.expr.specs.declared.Token.{Token}
 use Rattle.expr.specs.Formula.{opcodeOf, operandOf}
 use Rattle.expr_cost.specs.declared.Cost.{Cost}
@@ -16,8 +16,10 @@ use Rattle.probe_points.specs.declared.Draw.{Draw}
 use Rattle.probe_points.specs.declared.Point.{Point}
 use Rattle.probe_points.specs.declared.Points.{Points}
 use Rattle.search_product_trial.specs.Trying.{Product}
+use Rattle.search_residual_trial.specs.Trying.{Completion}
 use Rattle.index.specs.Build.{Summary}
 use Rattle.simjaldek_abi.specs.declared.Reply.{Reply}
+use Rattle.simjaldek_abi.specs.declared.ResidualReply.{ResidualReply}
 use Rattle.simjaldek_abi.specs.declared.WordReply.{WordReply}
 use Rattle.simjaldek_abi.specs.declared.CostReply.{CostReply}
 use Rattle.simjaldek_abi.specs.declared.RowReply.{RowReply}
@@ -46,6 +48,17 @@ productReply (refused number) = refusedReply number
 productReply (answer none) = reply 0 0 0
 productReply (answer (some (Product.ofAtoms a b))) = reply 1 a b
 productReply (answer (some (Product.ofPair a s))) = reply 2 a s
+
+-- 01, Turned back: only zeros beside a number of the table
+abbrev pub refusedResidual : ℕ → ResidualReply
+refusedResidual number = record { refusal = number; kind = 0; gate = 0; a = 0; b = 0 }
+
+-- 02, 2.1: nothing, two atoms, or an atom and a pair; the outer gate by its number
+abbrev pub residualReply : Outcome (Option Completion) → ResidualReply
+residualReply (refused number) = refusedResidual number
+residualReply (answer none) = record { refusal = 0; kind = 0; gate = 0; a = 0; b = 0 }
+residualReply (answer (some (Completion.ofAtoms g a b))) = record { refusal = 0; kind = 1; gate = gateNumber g; a = a; b = b }
+residualReply (answer (some (Completion.ofPair g a s))) = record { refusal = 0; kind = 2; gate = gateNumber g; a = a; b = s }
 
 -- a number or none: 01, Also added, the least slot with a row; 01, Candidates, how many there are, or "not used"
 abbrev pub optionReply : Outcome (Option ℕ) → Reply

@@ -11,6 +11,16 @@ pub struct Reply {
     pub b: u32,
 }
 
+// A completion by numbers; all zeros beside a refusal.
+#[repr(C)]
+pub struct ResidualReply {
+    pub refusal: u32,
+    pub kind: u32,
+    pub gate: u32,
+    pub a: u32,
+    pub b: u32,
+}
+
 // A word; 0 beside a refusal.
 #[repr(C)]
 pub struct WordReply {

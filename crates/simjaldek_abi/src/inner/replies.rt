@@ -1,6 +1,7 @@
 // The calls' answers as replies: an enum's case as a number beside its values; rows, points and tokens by their words. A refusal has zeros beside it.
 use crate::PointWords;
 use crate::Reply;
+use crate::ResidualReply;
 use crate::RowReply;
 use crate::TokenReply;
 use crate::WordReply;
@@ -18,6 +19,7 @@ use row_gates::ROW_WORDS;
 use row_gates::RowAnswer;
 use search_candidates::CandidatesAnswer;
 use search_product::ProductAnswer;
+use search_residual::ResidualAnswer;
 ghost use mathlib.Core.Path.{_≡_};
 ghost use mathlib.Core.List.{map};
 ghost use Rattle.row_gates.specs.Gates.{gateAt, matchSays};
@@ -27,8 +29,9 @@ ghost use Rattle.bank_lookup.specs.Lookup.{foundSays};
 ghost use Rattle.search_candidates.specs.Candidates.{candidatesSay};
 ghost use Rattle.index.specs.Build.{indexSays};
 ghost use Rattle.search_product.specs.Answer.{productSays};
+ghost use Rattle.search_residual.specs.Answer.{residualSays};
 ghost use Rattle.simjaldek_abi.specs.Slices.{rowIn, twoShort, gateRefusal};
-ghost use Rattle.simjaldek_abi.specs.Reply.{refusedReply, reply, markOf, numberReply, indexReply, productReply, optionReply, matchReply, wordReply, rowReply, refusedRow, pointWords, gateCall, rowOrElse, tokenParts, tokenReply};
+ghost use Rattle.simjaldek_abi.specs.Reply.{refusedReply, reply, markOf, numberReply, indexReply, productReply, refusedResidual, residualReply, optionReply, matchReply, wordReply, rowReply, refusedRow, pointWords, gateCall, rowOrElse, tokenParts, tokenReply};
 
 // A reply that is only a refusal.
 pub fn refused(refusal: u32) -> Reply
@@ -63,6 +66,42 @@ pub fn of_product(x: ProductAnswer) -> Reply
         ProductAnswer::AtomPair(a, s) => answer(2, a.0, s.0),
         ProductAnswer::Nothing => answer(0, 0, 0),
         ProductAnswer::Refused(number) => refused(number),
+    }
+}
+
+// A completion's numbers.
+fn completed(refusal: u32, kind: u32, gate: u32, a: u32, b: u32) -> ResidualReply
+    ensures { λ r. ⌜ r ≡ record { refusal = refusal; kind = kind; gate = gate; a = a; b = b } ⌝ }
+{
+    ResidualReply {
+        refusal,
+        kind,
+        gate,
+        a,
+        b,
+    }
+}
+
+// A completion's reply that is only a refusal.
+pub fn refused_residual(refusal: u32) -> ResidualReply
+    ensures { λ r. ⌜ r ≡ refusedResidual refusal ⌝ }
+{
+    completed(refusal, 0, 0, 0, 0)
+}
+
+// Kind 0 nothing, 1 two atoms, 2 an atom and a pair; the outer gate by its number.
+pub fn of_residual(x: ResidualAnswer) -> ResidualReply
+    ensures { λ r. ⌜ r ≡ residualReply (residualSays x) ⌝ }
+{
+    match x {
+        ResidualAnswer::Atoms(g, a, b) => {
+            completed(0, 1, row_gates::inner::gate_number(g), a.0, b.0)
+        }
+        ResidualAnswer::AtomPair(g, a, s) => {
+            completed(0, 2, row_gates::inner::gate_number(g), a.0, s.0)
+        }
+        ResidualAnswer::Nothing => completed(0, 0, 0, 0, 0),
+        ResidualAnswer::Refused(number) => refused_residual(number),
     }
 }
 

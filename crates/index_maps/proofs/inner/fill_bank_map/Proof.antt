@@ -5,7 +5,7 @@ use Prim.Native.Nat.{ℕ, _-_, _≤_}
 use native.Mathlib.Omega.{arith}
 use borrow.Author.Needs.{needs}
 use lib.ListN.{length}
-use Rattle.row_map.specs.Map.{Held}
+use Rattle.row_map.specs.Map.{homesOf, Held}
 use Rattle.row_map.proofs.MapLaws.{held-empty}
 use Rattle.index_maps.specs.Area.{bankBits}
 use Rattle.index_maps.proofs.inner.fill_bank_map.Statement.{statement}
@@ -41,7 +41,7 @@ loop-again : tie.Need-loop-again Inv-loop μ-loop
 loop-again c =
     let t = c .before .before .before .before .before .before in
     let s = t .before .before .before .before .before .before .before in
-    (omega arith, (search needs, c .before .before .insert .ensures .held (s .args .atoms .now) (t .loop .inv .1 .1) (c .before .before .before .before .bank-home .ensures .0)))
+    (omega arith, (search needs, record { chained = c .before .before .insert .ensures .chained (homesOf bankBits (s .args .atoms .now)) (t .loop .inv .1 .1 .chained) (c .before .before .before .before .bank-home .ensures .0) }))
 
 same-length : tie.Need-same-length Inv-loop μ-loop
 same-length c = search needs

@@ -1,5 +1,5 @@
 -- `row_map::inner::find_by` meets its contract: no slot from the entry on has the row, and links fall, so that the walk ends. Assumes nothing.
-use mathlib.Core.Path.{_≡_, sym, ap, _∙_}
+use mathlib.Core.Path.{_≡_, sym, ap, _∙_, subst}
 use Prim.Native.Nat.{ℕ, _+_, _-_, _%_, _^_}
 use native.Mathlib.Omega.{arith}
 use borrow.Author.Needs.{needs}
@@ -7,13 +7,13 @@ use lib.ListN.{getD}
 use Rattle.arrays.specs.Parts.{partAt}
 use Rattle.limits.proofs.Refusals.{true-not-false}
 use Rattle.row_gates.proofs.Rows.{same-row-eq, same-row-of}
-use Rattle.row_map.specs.Map.{homeOf, Top}
+use Rattle.row_map.specs.Map.{homeOf, homesOf, Top}
 use Rattle.row_map.proofs.Walks.{Walk, walk-start, walk-on}
 use Rattle.row_map.proofs.inner.find_by.Statement.{statement}
 use Rattle.row_map.proofs.inner.find_by.Tie as tie
 
 abbrev Inv-loop : tie.InvT-loop
-Inv-loop work bits rows n row print links home entry₀ entry = Walk rows row bits n entry
+Inv-loop work bits rows n row print links home entry₀ entry = Walk (homesOf bits rows) (homeOf bits row) (λ (t : ℕ). partAt 16 rows t ≡ row) n entry
 
 abbrev μ-loop : tie.MeasureT-loop
 μ-loop work bits rows n row print links home entry₀ entry = entry
@@ -44,7 +44,11 @@ loop-holds : tie.Need-loop-holds Inv-loop μ-loop
 loop-holds c =
     let s = c .before .before .before .before .before in
     let h = c .before .home-of in
-    walk-start (s .args .rows .now) (s .args .row) (s .args .bits) (s .args .n) (h .result) _ (homed (c .before)) (s .pre .0 .held .heads (h .result) (h .ensures .1))
+    let bits = s .args .bits in
+    let rows = s .args .rows .now in
+    let row = s .args .row in
+    walk-start (homesOf bits rows) (homeOf bits row) (λ (t : ℕ). partAt 16 rows t ≡ row) (λ t e. ap (homeOf bits) e) (s .args .n) _
+    (subst (λ (k : ℕ). Top (homesOf bits rows) (s .args .n) k (getD (s .args .work .now) (h .result) 0)) (homed (c .before)) (s .pre .0 .held .chained .heads (h .result) (h .ensures .1)))
 
 sub-slot : tie.Need-sub-slot Inv-loop μ-loop
 sub-slot c = search needs
@@ -81,11 +85,11 @@ link : (c : tie.After-shared-slice-known4 Inv-loop μ-loop) →
     let t = c .before .before .before .before in
     let s = t .before .before .before .before .before .before in
     let slot = t .loop .entry - 1 in
-    Top (s .args .rows .now) (s .args .bits) slot (homeOf (s .args .bits) (partAt 16 (s .args .rows .now) slot)) (getD (s .args .work .now) (t .before .before .before .heads .result + slot) 0)
+    Top (homesOf (s .args .bits) (s .args .rows .now)) slot (homesOf (s .args .bits) (s .args .rows .now) slot) (getD (s .args .work .now) (t .before .before .before .heads .result + slot) 0)
 link c =
     let t = c .before .before .before .before in
     let s = t .before .before .before .before .before .before in
-    rw (t .before .before .before .heads .ensures) (s .pre .0 .held .links (t .loop .entry - 1) (omega (arith, t .loop .inv .within)))
+    rw (t .before .before .before .heads .ensures) (s .pre .0 .held .chained .links (t .loop .entry - 1) (omega (arith, t .loop .inv .within)))
 
 loop-less : tie.Need-loop-less Inv-loop μ-loop
 loop-less c =
@@ -97,7 +101,10 @@ loop-again c =
     let t = c .before .before .before .before in
     let s = t .before .before .before .before .before .before in
     let cur = t .loop .entry in
-    walk-on (s .args .rows .now) (s .args .row) (s .args .bits) (s .args .n) cur (cur - 1) _ (omega arith)
+    let bits = s .args .bits in
+    let rows = s .args .rows .now in
+    let row = s .args .row in
+    walk-on (homesOf bits rows) (homeOf bits row) (λ (t : ℕ). partAt 16 rows t ≡ row) (λ t e. ap (homeOf bits) e) (s .args .n) cur (cur - 1) _ (omega arith)
     (λ e. true-not-false (sym (same-row-of e) ∙ sym (c .before .before .same-row .ensures) ∙ c .before .if1 .left))
     (link c)
     (t .loop .inv)

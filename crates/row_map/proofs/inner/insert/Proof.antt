@@ -2,7 +2,7 @@
 use native.Mathlib.Omega.{arith}
 use borrow.Author.Needs.{needs}
 use lib.ListN.{length-set}
-use Rattle.row_map.proofs.MapLaws.{held-more}
+use Rattle.row_map.proofs.MapLaws.{chained-more}
 use Rattle.row_map.proofs.inner.insert.Statement.{statement}
 use Rattle.row_map.proofs.inner.insert.Tie as tie
 
@@ -45,7 +45,7 @@ returns : tie.Need-returns
 returns c =
     let t = c .before .before .before in
     let s = t .args in
-    record { held = λ rows held e. rw (c .before .heads .ensures) (held-more (s .work .now) rows (s .bits) (s .n) (s .home) (t .pre .link) (t .pre .chain) e held) }
+    record { chained = λ home held e. rw (c .before .heads .ensures) (chained-more (s .work .now) home (s .bits) (s .n) (s .home) (t .pre .link) (t .pre .chain) e held) }
 
 pub insert-spec : {M : Type 1} → statement M
 insert-spec =

@@ -1,0 +1,4 @@
+-- The laws of this crate.
+pub mod Mixing
+pub mod Walking
+pub mod Passing

@@ -1,0 +1,2 @@
+-- What the contracts of this crate, and of the search, cite.
+pub mod Map
