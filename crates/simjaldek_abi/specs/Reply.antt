@@ -53,12 +53,16 @@ productReply (answer (some (Product.ofPair a s))) = reply 2 a s
 abbrev pub refusedResidual : ℕ → ResidualReply
 refusedResidual number = record { refusal = number; kind = 0; gate = 0; a = 0; b = 0 }
 
+-- an answer of this kind, with its gate's number and its slots
+abbrev pub completed : ℕ → ℕ → ℕ → ℕ → ResidualReply
+completed kind gate a b = record { refusal = 0; kind = kind; gate = gate; a = a; b = b }
+
 -- 02, 2.1: nothing, two atoms, or an atom and a pair; the outer gate by its number
 abbrev pub residualReply : Outcome (Option Completion) → ResidualReply
 residualReply (refused number) = refusedResidual number
-residualReply (answer none) = record { refusal = 0; kind = 0; gate = 0; a = 0; b = 0 }
-residualReply (answer (some (Completion.ofAtoms g a b))) = record { refusal = 0; kind = 1; gate = gateNumber g; a = a; b = b }
-residualReply (answer (some (Completion.ofPair g a s))) = record { refusal = 0; kind = 2; gate = gateNumber g; a = a; b = s }
+residualReply (answer none) = completed 0 0 0 0
+residualReply (answer (some (Completion.ofAtoms g a b))) = completed 1 (gateNumber g) a b
+residualReply (answer (some (Completion.ofPair g a s))) = completed 2 (gateNumber g) a s
 
 -- a number or none: 01, Also added, the least slot with a row; 01, Candidates, how many there are, or "not used"
 abbrev pub optionReply : Outcome (Option ℕ) → Reply

@@ -31,7 +31,7 @@ ghost use Rattle.index.specs.Build.{indexSays};
 ghost use Rattle.search_product.specs.Answer.{productSays};
 ghost use Rattle.search_residual.specs.Answer.{residualSays};
 ghost use Rattle.simjaldek_abi.specs.Slices.{rowIn, twoShort, gateRefusal};
-ghost use Rattle.simjaldek_abi.specs.Reply.{refusedReply, reply, markOf, numberReply, indexReply, productReply, refusedResidual, residualReply, optionReply, matchReply, wordReply, rowReply, refusedRow, pointWords, gateCall, rowOrElse, tokenParts, tokenReply};
+ghost use Rattle.simjaldek_abi.specs.Reply.{refusedReply, reply, markOf, numberReply, indexReply, productReply, refusedResidual, completed, residualReply, optionReply, matchReply, wordReply, rowReply, refusedRow, pointWords, gateCall, rowOrElse, tokenParts, tokenReply};
 
 // A reply that is only a refusal.
 pub fn refused(refusal: u32) -> Reply
@@ -69,24 +69,30 @@ pub fn of_product(x: ProductAnswer) -> Reply
     }
 }
 
-// A completion's numbers.
-fn completed(refusal: u32, kind: u32, gate: u32, a: u32, b: u32) -> ResidualReply
-    ensures { λ r. ⌜ r ≡ record { refusal = refusal; kind = kind; gate = gate; a = a; b = b } ⌝ }
+// A completion's reply that is only a refusal.
+pub fn refused_residual(refusal: u32) -> ResidualReply
+    ensures { λ r. ⌜ r ≡ refusedResidual refusal ⌝ }
 {
     ResidualReply {
         refusal,
+        kind: 0,
+        gate: 0,
+        a: 0,
+        b: 0,
+    }
+}
+
+// A completion's reply that is no refusal.
+pub fn completion(kind: u32, gate: u32, a: u32, b: u32) -> ResidualReply
+    ensures { λ r. ⌜ r ≡ completed kind gate a b ⌝ }
+{
+    ResidualReply {
+        refusal: 0,
         kind,
         gate,
         a,
         b,
     }
-}
-
-// A completion's reply that is only a refusal.
-pub fn refused_residual(refusal: u32) -> ResidualReply
-    ensures { λ r. ⌜ r ≡ refusedResidual refusal ⌝ }
-{
-    completed(refusal, 0, 0, 0, 0)
 }
 
 // Kind 0 nothing, 1 two atoms, 2 an atom and a pair; the outer gate by its number.
@@ -95,12 +101,12 @@ pub fn of_residual(x: ResidualAnswer) -> ResidualReply
 {
     match x {
         ResidualAnswer::Atoms(g, a, b) => {
-            completed(0, 1, row_gates::inner::gate_number(g), a.0, b.0)
+            completion(1, row_gates::inner::gate_number(g), a.0, b.0)
         }
         ResidualAnswer::AtomPair(g, a, s) => {
-            completed(0, 2, row_gates::inner::gate_number(g), a.0, s.0)
+            completion(2, row_gates::inner::gate_number(g), a.0, s.0)
         }
-        ResidualAnswer::Nothing => completed(0, 0, 0, 0, 0),
+        ResidualAnswer::Nothing => completion(0, 0, 0, 0),
         ResidualAnswer::Refused(number) => refused_residual(number),
     }
 }
