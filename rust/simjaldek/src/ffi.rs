@@ -12,6 +12,16 @@ pub struct Reply {
     pub b: u32,
 }
 
+/// A completion by numbers; all zeros beside a refusal.
+#[repr(C)]
+pub struct ResidualReply {
+    pub refusal: u32,
+    pub kind: u32,
+    pub gate: u32,
+    pub a: u32,
+    pub b: u32,
+}
+
 /// A word; 0 beside a refusal.
 #[repr(C)]
 pub struct WordReply {
@@ -83,6 +93,18 @@ extern "C" {
         target: *const u64,
         target_len: usize,
     ) -> Reply;
+
+    pub fn simjaldek_residual_search(
+        w: u32,
+        atom_count: usize,
+        atom_rows: *const u64,
+        atom_rows_len: usize,
+        pair_count: usize,
+        pair_rows: *const u64,
+        pair_rows_len: usize,
+        target: *const u64,
+        target_len: usize,
+    ) -> ResidualReply;
 
     pub fn simjaldek_find_row(
         w: u32,

@@ -253,6 +253,11 @@ impl FormulaBuf {
     }
 }
 
+/// Two formulas under a token.
+pub(crate) fn operation(left: Formula<'_>, right: Formula<'_>, token: Token) -> FormulaBuf {
+    left.tokens().chain(right.tokens()).chain([token]).collect()
+}
+
 impl FromIterator<Token> for FormulaBuf {
     fn from_iter<I: IntoIterator<Item = Token>>(tokens: I) -> Self {
         let (ops, operands) = tokens.into_iter().map(Token::parts).unzip();

@@ -1,9 +1,10 @@
 //! An index that borrows its bank, its pairs, and the searches over both.
 
+use crate::formula::operation;
 use crate::lent::{self, IndexArrays, Pairs};
 use crate::{
-    Atom, AtomSlot, Bank, Formula, FormulaBuf, FormulaError, Gate, PairSlot, Product, Refusal, Row,
-    Token, PAIRS_MAX, ROW_WORDS,
+    Atom, AtomSlot, Bank, Completion, CompletionAnswer, Formula, FormulaBuf, FormulaError, Gate,
+    PairSlot, Product, ProductAnswer, Refusal, Row, PAIRS_MAX, ROW_WORDS,
 };
 use std::fmt;
 
@@ -149,7 +150,7 @@ impl<'b> Index<'b> {
     /// found for it says nothing about the formula that it came from. [`product_for`](Index::product_for) can't go wrong so.
     pub fn product_search(&self, target: &Row) -> Result<ProductAnswer<'_>, Refusal> {
         let product = lent::product_search(self.width(), self.bank.lend(), self.lend(), target)?;
-        Ok(self.answer(product))
+        Ok(self.of_product(product))
     }
 
     /// The product search for a formula's row at the bank's points. Refuses 6.
@@ -161,11 +162,44 @@ impl<'b> Index<'b> {
     }
 
     /// A product's slots as atoms of the bank and pairs of this index.
-    fn answer(&self, product: Product) -> ProductAnswer<'_> {
+    fn of_product(&self, product: Product) -> ProductAnswer<'_> {
         match product {
             Product::Atoms(a, b) => ProductAnswer::Atoms(self.held(a), self.held(b)),
             Product::AtomPair(a, pair) => ProductAnswer::AtomPair(self.held(a), self.listed(pair)),
             Product::Nothing => ProductAnswer::Nothing { certain: !self.cut },
+        }
+    }
+
+    /// The first xor, else the first sum, of an atom with an atom or a pair that has this row: atoms ascending, for each first the atoms,
+    /// then the pairs. In the order of the search, not the cheapest: a row that an atom or a pair has by itself is found as `c0` with it
+    /// under Xor. Refuses 5.
+    ///
+    /// The row must be one of the bank's own points, as for [`product_search`](Index::product_search);
+    /// [`residual_for`](Index::residual_for) can't go wrong there.
+    pub fn residual_search(&self, target: &Row) -> Result<CompletionAnswer<'_>, Refusal> {
+        let (atoms, pairs) = (self.bank.lend(), self.lend().unordered());
+        let completion = lent::residual_search(self.width(), atoms, pairs, target)?;
+        Ok(self.of_completion(completion))
+    }
+
+    /// The residual search for a formula's row at the bank's points. Refuses 6.
+    ///
+    /// A bank that was built for another target lacks this formula's seeds: [`Bank::build`] says what that means.
+    pub fn residual_for(&self, formula: Formula<'_>) -> Result<CompletionAnswer<'_>, FormulaError> {
+        let target = self.bank.points().row(formula)?;
+        Ok(self.residual_search(&target)?)
+    }
+
+    /// A completion's slots as atoms of the bank and pairs of this index.
+    fn of_completion(&self, completion: Completion) -> CompletionAnswer<'_> {
+        match completion {
+            Completion::Atoms(gate, a, b) => {
+                CompletionAnswer::Atoms(gate, self.held(a), self.held(b))
+            }
+            Completion::AtomPair(gate, a, pair) => {
+                CompletionAnswer::AtomPair(gate, self.held(a), self.listed(pair))
+            }
+            Completion::Nothing => CompletionAnswer::Nothing { certain: !self.cut },
         }
     }
 
@@ -237,11 +271,6 @@ impl<'i> Pair<'i> {
     }
 }
 
-/// Two formulas under a token.
-fn operation(left: Formula<'_>, right: Formula<'_>, token: Token) -> FormulaBuf {
-    left.tokens().chain(right.tokens()).chain([token]).collect()
-}
-
 /// The same slot of the very same index; not of a copy.
 impl PartialEq for Pair<'_> {
     fn eq(&self, other: &Self) -> bool {
@@ -261,45 +290,5 @@ impl fmt::Debug for Pair<'_> {
 impl fmt::Display for Pair<'_> {
     fn fmt(&self, f: &mut fmt::Formatter<'_>) -> fmt::Result {
         self.postfix().fmt(f)
-    }
-}
-
-/// What the product search answers, in the atoms and pairs that it searched. Answers are equal within one index; across copies compare
-/// [`slots`](ProductAnswer::slots) or [`postfix`](ProductAnswer::postfix).
-#[derive(Clone, Copy, Debug, PartialEq, Eq)]
-pub enum ProductAnswer<'i> {
-    /// Two atoms whose product has the row.
-    Atoms(Atom<'i>, Atom<'i>),
-    /// An atom and a listed pair whose product has the row.
-    AtomPair(Atom<'i>, Pair<'i>),
-    /// Neither a product of two atoms nor one of an atom and a listed pair has the row.
-    Nothing {
-        /// Whether the index is whole. Then no a × b and no a × (b g c) with atoms a, b, c of this bank and a gate g has the row; of
-        /// other forms it says nothing. With a cut index a pair that isn't listed may do. It speaks of this bank's atoms and of this row:
-        /// with a bank that was built for another target, or a row of other points, it is no verdict on a formula.
-        certain: bool,
-    },
-}
-
-impl ProductAnswer<'_> {
-    /// The product written out in postfix; none for nothing.
-    pub fn postfix(self) -> Option<FormulaBuf> {
-        match self {
-            ProductAnswer::Atoms(a, b) => Some(operation(a.formula(), b.formula(), Token::Mul)),
-            ProductAnswer::AtomPair(a, pair) => {
-                let pair = pair.postfix();
-                Some(operation(a.formula(), pair.as_formula(), Token::Mul))
-            }
-            ProductAnswer::Nothing { .. } => None,
-        }
-    }
-
-    /// The answer by slots, as [`lent::product_search`] has it.
-    pub fn slots(self) -> Product {
-        match self {
-            ProductAnswer::Atoms(a, b) => Product::Atoms(a.slot(), b.slot()),
-            ProductAnswer::AtomPair(a, pair) => Product::AtomPair(a.slot(), pair.slot()),
-            ProductAnswer::Nothing { .. } => Product::Nothing,
-        }
     }
 }

@@ -12,12 +12,24 @@
 #![allow(unsafe_code)]
 
 use crate::ffi;
-use crate::{AtomSlot, Cost, PairSlot, Point, Product, Refusal, Row, Token, ATOMS_MAX, ROW_WORDS};
+use crate::{
+    AtomSlot, Completion, Cost, Gate, PairSlot, Point, Product, Refusal, Row, Token, ATOMS_MAX,
+    ROW_WORDS,
+};
 
 /// Atoms' rows: `count` atoms, sixteen words each in `rows`.
 #[derive(Clone, Copy, Debug)]
 pub struct Atoms<'a> {
     /// How many atoms are claimed.
+    pub count: usize,
+    /// Their rows, one after the other.
+    pub rows: &'a [u64],
+}
+
+/// Pairs' rows: `count` pairs, sixteen words each in `rows`. For the calls that read no order list.
+#[derive(Clone, Copy, Debug)]
+pub struct PairRows<'a> {
+    /// How many pairs are claimed.
     pub count: usize,
     /// Their rows, one after the other.
     pub rows: &'a [u64],
@@ -32,6 +44,16 @@ pub struct Pairs<'a> {
     pub rows: &'a [u64],
     /// All pair slots, ascending by (first row word, slot).
     pub order: &'a [u32],
+}
+
+impl<'a> Pairs<'a> {
+    /// The same pairs without their order list.
+    pub fn unordered(self) -> PairRows<'a> {
+        PairRows {
+            count: self.count,
+            rows: self.rows,
+        }
+    }
 }
 
 /// A formula: the first `count` tokens of two arrays.
@@ -132,6 +154,47 @@ pub fn product_search(
         kind => panic!("{kind} is no kind of product: an archive of another commit?"),
     };
     unless_refused(reply.refusal, product)
+}
+
+/// The first atom that an atom or a pair completes to the target, under Xor, else under Add: atoms ascending, for each first the atoms,
+/// then the pairs, by slot; in the order of the search, not the cheapest. A row completes an atom where it is, word for word, the atom's
+/// [`gate_residual`]; where all words are below 2^w the xor or sum of the two is then the target. It has the target's words at the points
+/// and may differ elsewhere. "Nothing" is certain only with a whole index of these very atoms at this width, and atoms' rows below 2^w.
+/// Refuses 2, 4, 5, 7.
+pub fn residual_search(
+    width: u32,
+    atoms: Atoms<'_>,
+    pairs: PairRows<'_>,
+    target: &[u64],
+) -> Result<Completion, Refusal> {
+    // SAFETY: each pointer comes with its own slice's length; the function reads within these lengths and keeps no pointer.
+    let reply = unsafe {
+        ffi::simjaldek_residual_search(
+            width,
+            atoms.count,
+            atoms.rows.as_ptr(),
+            atoms.rows.len(),
+            pairs.count,
+            pairs.rows.as_ptr(),
+            pairs.rows.len(),
+            target.as_ptr(),
+            target.len(),
+        )
+    };
+    let completion = match reply.kind {
+        1 => Completion::Atoms(outer_gate(reply.gate), AtomSlot(reply.a), AtomSlot(reply.b)),
+        2 => Completion::AtomPair(outer_gate(reply.gate), AtomSlot(reply.a), PairSlot(reply.b)),
+        0 => Completion::Nothing,
+        kind => panic!("{kind} is no kind of completion: an archive of another commit?"),
+    };
+    unless_refused(reply.refusal, completion)
+}
+
+/// The outer gate of a completion.
+fn outer_gate(number: u32) -> Gate {
+    Gate::from_number(number)
+        .filter(|gate| matches!(gate, Gate::Xor | Gate::Add))
+        .unwrap_or_else(|| panic!("{number} is no outer gate: an archive of another commit?"))
 }
 
 /// The least slot whose row is `row`, or none. Refuses 2, 4, 5, 7.

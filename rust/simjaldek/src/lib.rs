@@ -1,11 +1,12 @@
-//! Safe calls into Simjaldek, which looks for a product of small formulas that has the row of a long one. **What an answer means:** a
-//! row says what a formula does at sixteen points, and no more. So a product that is found has the formula's values at the sixteen
-//! points, and may differ from it elsewhere: at width 16 with three variables `v0 v1 & v2 & c2 &` is 0 at all of them, the search
-//! rightly answers `c0 c0 *`, and with all bits set in each variable the formula is 2. Comparing the two beyond the points, before one
-//! takes the other's place, is for the layer above, as cobra does with samples. The product is the first that fits in the order of the
-//! search, not the cheapest. "Nothing" is about the forms that were searched, a × b and a × (b g c) with a, b, c atoms of this bank and
-//! g a gate, and certain only where the index is whole: with six variables and widths from 6 up most formulas' own rows make more
-//! pairs than 262,144, and the index is cut there.
+//! Safe calls into Simjaldek, which looks for a product, an xor or a sum of small formulas that has the row of a long one. **What an
+//! answer means:** a row says what a formula does at sixteen points, and no more. So what is found has the formula's values at the
+//! sixteen points, and may differ from it elsewhere: at width 16 with three variables `v0 v1 & v2 & c2 &` is 0 at all of them, the
+//! product search rightly answers `c0 c0 *`, and with all bits set in each variable the formula is 2. Comparing the two beyond the
+//! points, before one takes the other's place, is for the layer above, as cobra does with samples. What is found is the first that fits
+//! in the order of the search, not the cheapest. "Nothing" is about the forms that were searched, with a, b, c atoms of this bank and g
+//! a gate: a × b and a × (b g c) by the product search, a ^ b, a + b, a ^ (b g c) and a + (b g c) by the residual search. It is certain
+//! only where the index is whole: with six variables and widths from 6 up most formulas' own rows make more pairs than 262,144, and the
+//! index is cut there.
 //!
 //! ```
 //! use simjaldek::{Bank, Index, Points, PAIRS_MAX};
@@ -25,9 +26,11 @@
 //! # Ok::<(), Box<dyn std::error::Error>>(())
 //! ```
 //!
-//! There are a bank of small formulas, an index of rows made from two of them by a gate, and a search for products. Each call goes to a function of the static library `libsimjaldek.a` that is proved, for all inputs, to give the
-//! answer or the [`Refusal`] that the specification has; docs/CALLS.md of the repository names the promise of each. What is not proved
-//! is this crate: that its declarations fit the library, and what it does with an answer.
+//! There are a bank of small formulas, an index of rows made from two of them by a gate, and two searches over both: the product search,
+//! and the residual search, which completes a formula of the bank to the row, under Xor, then under Add. Each call goes to a function of
+//! the static library `libsimjaldek.a` that is proved, for all inputs, to give the answer or the [`Refusal`] that the specification has;
+//! docs/CALLS.md of the repository names the promise of each. What is not proved is this crate: that its declarations fit the library,
+//! and what it does with an answer.
 //!
 //! [`Points`] are told the variable count and the width, once; a [`Bank`] keeps its points, an [`Index`] its bank, an [`Atom`] its
 //! bank and a [`Pair`] its index, so that none can be taken for another's. [`lent`] has the calls over a caller's own arrays, where
@@ -48,10 +51,28 @@
 //! assert_eq!(answer.postfix().map(|product| product.to_string()), Some("v0 v0 v1 + *".to_owned()));
 //! # Ok::<(), Box<dyn std::error::Error>>(())
 //! ```
+//!
+//! A sum, where no product is found:
+//!
+//! ```
+//! use simjaldek::{Bank, CompletionAnswer, Index, Points, ProductAnswer, PAIRS_MAX};
+//!
+//! let points = Points::standard(2, 32)?;
+//! let long = points.read("v0 v0 * v0 v1 * + v0 v1 * + v1 v1 * + v0 v1 ^ +")?.formula;
+//! let bank = Bank::build_for(&points, long.as_formula())?;
+//! let index = Index::build(&bank, PAIRS_MAX)?;
+//! assert_eq!(index.product_for(long.as_formula())?, ProductAnswer::Nothing { certain: true });
+//! let CompletionAnswer::AtomPair(gate, a, pair) = index.residual_for(long.as_formula())? else {
+//!     panic!("(v0 ^ v1) + (v0 + v1) * (v0 + v1) is an atom completed by a pair");
+//! };
+//! assert_eq!(format!("{gate:?} of {a} and {pair}"), "Add of v0 v1 ^ and v0 v1 + v0 v1 + *");
+//! # Ok::<(), Box<dyn std::error::Error>>(())
+//! ```
 
 #![warn(missing_docs)]
 #![deny(unsafe_code)]
 
+mod answers;
 mod bank;
 mod fault;
 mod ffi;
@@ -63,10 +84,11 @@ mod points;
 mod refusal;
 mod types;
 
+pub use answers::{CompletionAnswer, ProductAnswer};
 pub use bank::{Atom, Bank};
 pub use fault::{Fault, FormulaError};
 pub use formula::{CutConstant, Formula, FormulaBuf, Token};
-pub use index::{Index, Pair, ProductAnswer};
+pub use index::{Index, Pair};
 pub use lent::{
     bitmask, mod_add, mod_inverse_odd, mod_mul, mod_neg, mod_not, mod_sub, reduce, splitmix64,
     wrapping_mul,
@@ -75,7 +97,7 @@ pub use parse::{ParseFormulaError, ParseTokenError};
 pub use points::{Points, ReadError, Reading};
 pub use refusal::Refusal;
 pub use types::{
-    AtomSlot, Cost, Gate, PairSlot, Point, Product, Row, ATOMS_MAX, ATOM_TOKENS,
+    AtomSlot, Completion, Cost, Gate, PairSlot, Point, Product, Row, ATOMS_MAX, ATOM_TOKENS,
     FORMULA_TOKENS_MAX, PAIRS_MAX, POINT_WORDS, ROW_WORDS,
 };
 

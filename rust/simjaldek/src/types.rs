@@ -1,4 +1,4 @@
-//! The words that the calls speak in: rows, points, slots, gates, costs, products.
+//! The words that the calls speak in: rows, points, slots, gates, costs, products, completions.
 
 use crate::Token;
 use std::fmt;
@@ -110,5 +110,17 @@ pub enum Product {
     /// An atom and a listed pair whose product is the target.
     AtomPair(AtomSlot, PairSlot),
     /// Neither two atoms nor an atom and a listed pair have the target as their product.
+    Nothing,
+}
+
+/// What the residual search over lent arrays answers, by slots; [`CompletionAnswer`](crate::CompletionAnswer) has the atoms and the pair.
+/// The outer gate comes first, Xor or Add; the atom after it is the one that is completed.
+#[derive(Clone, Copy, Debug, PartialEq, Eq)]
+pub enum Completion {
+    /// An atom that an atom completes to the target.
+    Atoms(Gate, AtomSlot, AtomSlot),
+    /// An atom that a listed pair completes to the target.
+    AtomPair(Gate, AtomSlot, PairSlot),
+    /// Neither an atom nor a listed pair completes an atom to the target, under Xor or under Add.
     Nothing,
 }

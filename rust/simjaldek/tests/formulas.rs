@@ -1,8 +1,8 @@
 //! What is told of texts and tokens that are no formula, and of constants that the width cuts off.
 
 use simjaldek::{
-    compute_cost, evaluate, is_formula, splitmix64, Fault, Formula, FormulaBuf, Points, ReadError,
-    Refusal, Token,
+    compute_cost, evaluate, is_formula, splitmix64, Bank, Fault, Formula, FormulaBuf, Index,
+    Points, ReadError, Refusal, Token,
 };
 
 fn parsed(text: &str) -> FormulaBuf {
@@ -64,10 +64,15 @@ fn refusals_of_formulas() {
         num_vars: 2,
     };
     let points = Points::standard(2, 16).unwrap();
+    let bank = Bank::build(&points, &[0; 16]).unwrap();
+    let index = Index::build(&bank, 10).unwrap();
     let errors = [
         evaluate(2, 16, formula.as_formula(), &[0; 2]).unwrap_err(),
         compute_cost(2, formula.as_formula()).unwrap_err(),
         points.row(formula.as_formula()).unwrap_err(),
+        Bank::build_for(&points, formula.as_formula()).unwrap_err(),
+        index.product_for(formula.as_formula()).unwrap_err(),
+        index.residual_for(formula.as_formula()).unwrap_err(),
     ];
     for error in errors {
         assert_eq!(error.refusal(), Refusal::Formula);

@@ -5,8 +5,8 @@ mod common;
 use common::{one_variable, p2, repeated, IndexBuffers};
 use simjaldek::lent::{self, Built};
 use simjaldek::{
-    splitmix64, Atom, Bank, FormulaBuf, Index, Pair, PairSlot, Points, Product, ProductAnswer, Row,
-    Token, PAIRS_MAX,
+    splitmix64, Atom, Bank, Completion, CompletionAnswer, FormulaBuf, Gate, Index, Pair, PairSlot,
+    Points, Product, ProductAnswer, Row, Token, PAIRS_MAX,
 };
 
 fn parsed(text: &str) -> FormulaBuf {
@@ -46,6 +46,14 @@ fn index_of_another_width() {
         mixed == Ok(Product::Nothing)
     };
     assert!(index.pairs().any(missed));
+    let missed = |pair: Pair<'_>| {
+        let found = index.residual_search(pair.row()).unwrap();
+        assert_ne!(found.slots(), Completion::Nothing);
+        let pairs = narrow.pairs(pairs).unordered();
+        let mixed = lent::residual_search(3, bank.lend(), pairs, pair.row());
+        mixed == Ok(Completion::Nothing)
+    };
+    assert!(index.pairs().any(missed));
 }
 
 /// A slot of one bank read in another is another formula; an atom stays its bank's.
@@ -75,16 +83,20 @@ fn row_of_other_points() {
     let row = points.row(formula.as_formula()).unwrap();
     assert_eq!(bank.points().row(formula.as_formula()), Ok(row));
     assert_eq!(index.product_search(&row), Ok(right));
-    assert_eq!(row_of(&points, right), Some(row));
+    assert_eq!(row_of(&points, right.postfix()), Some(row));
     let slipped = other.row(formula.as_formula()).unwrap();
     let wrong = index.product_search(&slipped).unwrap();
-    assert_ne!(row_of(&points, wrong), Some(row));
+    assert_ne!(row_of(&points, wrong.postfix()), Some(row));
+    let right = index.residual_for(formula.as_formula()).unwrap();
+    assert_eq!(index.residual_search(&row), Ok(right));
+    assert_eq!(row_of(&points, right.postfix()), Some(row));
+    let wrong = index.residual_search(&slipped).unwrap();
+    assert_ne!(row_of(&points, wrong.postfix()), Some(row));
 }
 
-/// The row of a product that was found.
-fn row_of(points: &Points, answer: ProductAnswer<'_>) -> Option<Row> {
-    let product = answer.postfix()?;
-    Some(points.row(product.as_formula()).expect("a formula"))
+/// The row of what was found, if anything was.
+fn row_of(points: &Points, found: Option<FormulaBuf>) -> Option<Row> {
+    Some(points.row(found?.as_formula()).expect("a formula"))
 }
 
 #[test]
@@ -112,24 +124,49 @@ fn products_written_out() {
     assert_eq!(product.to_string(), "v0 v0 v0 * ! *");
 }
 
-/// Every row that is found is the row of the product that is written out.
 #[test]
-fn products_have_the_row() {
+fn completions_written_out() {
+    let bank = p2();
+    let index = Index::build(&bank, PAIRS_MAX).unwrap();
+    let atoms: Vec<Atom<'_>> = bank.atoms().collect();
+    for (gate, sign) in [(Gate::Xor, "^"), (Gate::Add, "+")] {
+        for pair in index.pairs() {
+            let answer = CompletionAnswer::AtomPair(gate, atoms[4], pair);
+            let completion = answer.postfix().expect("a completion");
+            assert_eq!(completion.to_string(), format!("v0 {pair} {sign}"));
+            let slots = Completion::AtomPair(gate, atoms[4].slot(), pair.slot());
+            assert_eq!(answer.slots(), slots);
+        }
+        let answer = CompletionAnswer::Atoms(gate, atoms[13], atoms[4]);
+        let completion = answer.postfix().expect("a completion");
+        assert_eq!(completion.to_string(), format!("v0 v0 * ! v0 {sign}"));
+        let slots = Completion::Atoms(gate, atoms[13].slot(), atoms[4].slot());
+        assert_eq!(answer.slots(), slots);
+    }
+}
+
+/// Every row that is found is the row of what is written out.
+#[test]
+fn answers_have_the_row() {
     let points = Points::standard(2, 8).unwrap();
     for text in [
         "v0 v0 * v0 v1 * +",
         "v0 v1 + v0 v1 - + *",
         "c3 v0 * c6 *",
         "v0 v1 ^ v0 v1 & c2 * +",
+        "v0 v0 * v0 v1 * + v0 v1 * + v1 v1 * + v0 v1 ^ +",
+        "v0 v1 * v0 v1 | ^ v1 v1 * ^",
     ] {
         let formula = points.read(text).unwrap().formula;
         let bank = Bank::build_for(&points, formula.as_formula()).unwrap();
         let index = Index::build(&bank, PAIRS_MAX).unwrap();
-        let answer = index.product_for(formula.as_formula()).unwrap();
-        assert_eq!(
-            row_of(&points, answer),
-            points.row(formula.as_formula()).ok()
-        );
+        let product = index.product_for(formula.as_formula()).unwrap();
+        let completion = index.residual_for(formula.as_formula()).unwrap();
+        let row = points.row(formula.as_formula()).unwrap();
+        let found = [product.postfix(), completion.postfix()];
+        let rows = found.map(|found| row_of(&points, found));
+        let nothing = ProductAnswer::Nothing { certain: true };
+        assert_eq!(rows, [(product != nothing).then_some(row), Some(row)]);
     }
 }
 
@@ -148,6 +185,29 @@ fn nothing_and_how_certain() {
         );
         assert_eq!(answer.postfix(), None);
     }
+    let target = repeated(&[0, 1, 0, 0]);
+    for limit in [0, 35, 36, 37] {
+        let index = Index::build(&bank, limit).unwrap();
+        let answer = index.residual_search(&target).unwrap();
+        assert_eq!(
+            answer,
+            CompletionAnswer::Nothing {
+                certain: limit >= 36
+            }
+        );
+        let none = (answer.postfix(), answer.slots());
+        assert_eq!(none, (None, Completion::Nothing));
+    }
+    // what a cut index lacks is missed
+    let (whole, cut) = (
+        Index::build(&bank, 36).unwrap(),
+        Index::build(&bank, 0).unwrap(),
+    );
+    let missed = |pair: Pair<'_>| {
+        let uncertain = CompletionAnswer::Nothing { certain: false };
+        cut.residual_search(pair.row()) == Ok(uncertain)
+    };
+    assert!(whole.pairs().any(missed));
 }
 
 /// Seeds come last: the rows without them come first and in the same order, and at most eight follow.
@@ -180,11 +240,17 @@ fn bank_of_another_target() {
             answer.postfix().is_none(),
             answer == ProductAnswer::Nothing { certain: true }
         );
-        answer.postfix().map(|product| product.to_string())
+        let completion = index.residual_for(formula.as_formula()).unwrap();
+        assert_eq!(
+            completion.postfix().is_none(),
+            completion == CompletionAnswer::Nothing { certain: true }
+        );
+        [answer.postfix(), completion.postfix()].map(|found| found.map(|found| found.to_string()))
     };
     let own = Bank::build_for(&points, formula.as_formula()).unwrap();
-    assert_eq!(found(own), Some("c1 v0 c77 & *".to_owned()));
-    assert_eq!(found(Bank::build(&points, &[0; 16]).unwrap()), None);
+    let texts = ["c1 v0 c77 & *", "c0 v0 c77 & ^"].map(|text| Some(text.to_owned()));
+    assert_eq!(found(own), texts);
+    assert_eq!(found(Bank::build(&points, &[0; 16]).unwrap()), [None, None]);
 }
 
 /// What the crate's first paragraph says of rows: `v0 v1 & v2 &` under a mask of one bit has the zero row for three of the sixteen
@@ -203,6 +269,10 @@ fn rows_say_no_more() {
             zero.push(bit);
             let product = answer.postfix().map(|product| product.to_string());
             assert_eq!(product, Some("c0 c0 *".to_owned()));
+            let completion = index.residual_for(formula.as_formula()).unwrap();
+            let completion = completion.postfix().expect("zero with itself");
+            assert_eq!(completion.to_string(), "c0 c0 ^");
+            assert!(differs(&points, &formula, &completion));
         }
         if answer
             .postfix()

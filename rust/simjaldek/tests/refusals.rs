@@ -3,7 +3,7 @@
 mod common;
 
 use common::{one_variable, p2, BankBuffers, IndexBuffers, FILL, FILL_U32, FILL_U64};
-use simjaldek::lent::{self, Atoms, Built, Pairs, Tokens};
+use simjaldek::lent::{self, Atoms, Built, PairRows, Pairs, Tokens};
 use simjaldek::{AtomSlot, Bank, Index, Points, Product, Refusal, ATOMS_MAX, PAIRS_MAX};
 
 const P2_POINTS: [u64; 4] = [0, 1, 2, 3];
@@ -166,7 +166,7 @@ fn index_places_beyond_the_count() {
     assert!(buffers.order[36..].iter().all(|&x| x == FILL_U32));
 }
 
-// ---- candidates and product search
+// ---- candidates and searches
 
 #[test]
 fn candidate_refusals() {
@@ -233,6 +233,14 @@ fn too_many_pairs() {
         rows: &[],
     };
     assert_eq!(number(lent::product_search(2, none, pairs, &[0; 16])), 7);
+    let asked = |pairs, target: &[u64]| number(lent::residual_search(2, none, pairs, target));
+    let pairs = pairs.unordered();
+    assert_eq!(asked(pairs, &[0; 16]), 7);
+    assert_eq!(asked(pairs, &[4; 16]), 5);
+    let rows = &rows[1..];
+    assert_eq!(asked(PairRows { rows, ..pairs }, &[4; 16]), 4);
+    let count = PAIRS_MAX;
+    assert_eq!(asked(PairRows { count, rows }, &[0; 16]), 0);
 }
 
 #[test]
@@ -269,6 +277,70 @@ fn search_refusals() {
         ..pairs
     };
     assert_eq!(asked(2, atoms, wrong, &zeros), 8);
+}
+
+#[test]
+fn residual_refusals() {
+    let bank = p2();
+    let index = Index::build(&bank, PAIRS_MAX).unwrap();
+    assert_eq!(number(index.residual_search(&[4; 16])), 5);
+    let (atoms, pairs, zeros) = (bank.lend(), index.lend().unordered(), [0; 16]);
+    let asked =
+        |w, atoms, pairs, target: &[u64]| number(lent::residual_search(w, atoms, pairs, target));
+    assert_eq!(asked(2, atoms, pairs, &zeros), 0);
+    for w in [0, 65, u32::MAX] {
+        assert_eq!(asked(w, atoms, pairs, &zeros), 2);
+    }
+    assert_eq!(asked(2, atoms, pairs, &zeros[..15]), 4);
+    for count in [15, usize::MAX / 16 + 1, usize::MAX] {
+        assert_eq!(asked(2, Atoms { count, ..atoms }, pairs, &zeros), 4);
+    }
+    for count in [37, usize::MAX / 16 + 1, usize::MAX] {
+        assert_eq!(asked(2, atoms, PairRows { count, ..pairs }, &zeros), 4);
+    }
+    let rows = &atoms.rows[1..];
+    assert_eq!(asked(2, Atoms { rows, ..atoms }, pairs, &zeros), 4);
+    let rows = &pairs.rows[1..];
+    assert_eq!(asked(2, atoms, PairRows { rows, ..pairs }, &zeros), 4);
+    for place in 0..16 {
+        let mut target = zeros;
+        target[place] = 4;
+        assert_eq!(asked(2, atoms, pairs, &target), 5);
+        target[place] = 3;
+        assert_eq!(asked(2, atoms, pairs, &target), 0);
+    }
+    let rows = vec![0; 16 * (ATOMS_MAX + 1)];
+    let all = Atoms {
+        count: ATOMS_MAX,
+        rows: &rows,
+    };
+    assert_eq!(asked(2, all, pairs, &zeros), 0);
+    let count = ATOMS_MAX + 1;
+    assert_eq!(asked(2, Atoms { count, ..all }, pairs, &zeros), 7);
+}
+
+/// The least number counts.
+#[test]
+fn residual_faults_at_once() {
+    let rows = vec![0; 16 * (ATOMS_MAX + 1)];
+    let many = Atoms {
+        count: ATOMS_MAX + 1,
+        rows: &rows,
+    };
+    let short = Atoms {
+        rows: &rows[1..],
+        ..many
+    };
+    let (none, missing) = ([0, 1]).map(|count| PairRows { count, rows: &[] }).into();
+    let asked =
+        |w, atoms, pairs, target: &[u64]| number(lent::residual_search(w, atoms, pairs, target));
+    assert_eq!(asked(0, short, missing, &[4; 15]), 2);
+    assert_eq!(asked(65, many, none, &[4; 16]), 2);
+    assert_eq!(asked(2, many, none, &[4; 15]), 4);
+    assert_eq!(asked(2, short, none, &[4; 16]), 4);
+    assert_eq!(asked(2, many, missing, &[4; 16]), 4);
+    assert_eq!(asked(2, many, none, &[4; 16]), 5);
+    assert_eq!(asked(2, many, none, &[3; 16]), 7);
 }
 
 #[test]
