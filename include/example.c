@@ -1,14 +1,16 @@
-/* Looks for a product with the row of v0 * v0 + v0 * v1 at width 8: the calls in their order, with arrays of the sizes
-   that they need. README.md says how it is compiled. */
+/* Shortens two formulas at width 8: a product with the row of v0 * v0 + v0 * v1, and, since no product has its row, a sum
+   with that of v0 * v0 + v0 * v1 + v0 * v1 + v1 * v1 + (v0 ^ v1). The calls in their order, with arrays of the sizes that
+   they need. README.md says how it is compiled. */
 #include "simjaldek.h"
 #include <stdio.h>
 #include <stdlib.h>
 
-enum { NV = 2, W = 8, ATOMS = 479, LIMIT = 10000, TOKENS = 7 };
+enum { NV = 2, W = 8, ATOMS = 479, LIMIT = 10000, TOKENS = 19 };
 
-/* v0 v0 * v0 v1 * + : opcode 1 is a variable, 3 a product, 2 a sum */
-static const uint8_t ops[TOKENS] = {1, 1, 3, 1, 1, 3, 2};
-static const uint64_t operands[TOKENS] = {0, 0, 0, 0, 1, 0, 0};
+/* v0 v0 * v0 v1 * + v0 v1 * + v1 v1 * + v0 v1 ^ + : opcode 1 is a variable, 3 a product, 2 a sum, 6 an xor; the first seven
+   tokens are the first formula */
+static const uint8_t ops[TOKENS] = {1, 1, 3, 1, 1, 3, 2, 1, 1, 3, 2, 1, 1, 3, 2, 1, 1, 6, 2};
+static const uint64_t operands[TOKENS] = {0, 0, 0, 0, 1, 0, 0, 0, 1, 0, 0, 1, 1, 0, 0, 0, 1, 0, 0};
 
 static uint32_t atom_lengths[ATOMS], atom_costs[3 * ATOMS], bank_work[4 * ATOMS];
 static uint8_t atom_ops[6 * ATOMS];
@@ -36,12 +38,24 @@ static void print_atom(uint32_t slot) {
     }
 }
 
-int main(void) {
-    struct simjaldek_points_reply at = simjaldek_make_probe_points(NV, W);
-    refused("make_probe_points", at.refusal);
-    const uint64_t *points = (const uint64_t *)at.points;
+/* an atom with an atom (kind 1) or with a pair (kind 2), under a gate of this number */
+static void print_found(uint32_t kind, uint32_t gate, uint32_t a, uint32_t b) {
+    static const char signs[] = "&|^+*";
+    print_atom(a);
+    if (kind == 1) {
+        print_atom(b);
+    } else {
+        print_atom(pairs[3 * b + 1]);
+        print_atom(pairs[3 * b + 2]);
+        printf("%c ", signs[pairs[3 * b]]);
+    }
+    printf("%c\nthe same values at the sixteen points; elsewhere unknown\n", signs[gate]);
+}
+
+/* looks for a product with the row of the first tokens, and then for an xor or a sum */
+static void shorten(const uint64_t *points, size_t token_count) {
     struct simjaldek_row_reply target =
-        simjaldek_probe(NV, W, points, 96, TOKENS, ops, TOKENS, operands, TOKENS);
+        simjaldek_probe(NV, W, points, 96, token_count, ops, TOKENS, operands, TOKENS);
     refused("probe", target.refusal);
     struct simjaldek_reply bank = simjaldek_build_bank(
         atom_lengths, ATOMS, atom_ops, 6 * ATOMS, atom_operands, 6 * ATOMS, atom_costs, 3 * ATOMS,
@@ -52,25 +66,27 @@ int main(void) {
         pairs, 3 * LIMIT, pair_rows, 16 * LIMIT, order, LIMIT, index_work, 4 * (LIMIT + ATOMS));
     refused("build_index", index.refusal);
     printf("atoms %u pairs %u %s\n", (unsigned)bank.a, (unsigned)index.a, index.b == 1 ? "cut" : "whole");
-    struct simjaldek_reply found = simjaldek_product_search(
+    struct simjaldek_reply product = simjaldek_product_search(
         W, bank.a, atom_rows, 16 * ATOMS, index.a, pair_rows, 16 * LIMIT, order, LIMIT, target.row, 16);
-    refused("product_search", found.refusal);
-    switch (found.kind) {
-    case 1:
-        print_atom(found.a);
-        print_atom(found.b);
-        printf("*\n");
-        break;
-    case 2:
-        print_atom(found.a);
-        print_atom(pairs[3 * found.b + 1]);
-        print_atom(pairs[3 * found.b + 2]);
-        printf("%c *\n", "&|^+*"[pairs[3 * found.b]]);
-        break;
-    default:
-        printf("nothing, %s\n", index.b == 1 ? "but the index is cut" : "for certain, of these forms");
-        return 0;
+    refused("product_search", product.refusal);
+    if (product.kind != 0) {
+        print_found(product.kind, 4, product.a, product.b);
+        return;
     }
-    printf("the same values at the sixteen points; elsewhere unknown\n");
+    struct simjaldek_residual_reply completion = simjaldek_residual_search(
+        W, bank.a, atom_rows, 16 * ATOMS, index.a, pair_rows, 16 * LIMIT, target.row, 16);
+    refused("residual_search", completion.refusal);
+    if (completion.kind != 0) {
+        print_found(completion.kind, completion.gate, completion.a, completion.b);
+        return;
+    }
+    printf("nothing, %s\n", index.b == 1 ? "but the index is cut" : "for certain, of these forms");
+}
+
+int main(void) {
+    struct simjaldek_points_reply at = simjaldek_make_probe_points(NV, W);
+    refused("make_probe_points", at.refusal);
+    shorten((const uint64_t *)at.points, 7);
+    shorten((const uint64_t *)at.points, TOKENS);
     return 0;
 }

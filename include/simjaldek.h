@@ -1,9 +1,10 @@
 /* The static library of Simjaldek, for C programs; docs/CALLS.md says what each call needs, refuses and answers.
    Made from the exports of crates/simjaldek and crates/simjaldek_abi by rust/simjaldek/tests/header.rs.
 
-   What an answer means: a product has the target's words at the sixteen points and may differ elsewhere, so compare the
-   formulas beyond the points; it is the first that fits, not the cheapest. "Nothing" is certain only with a whole index of
-   these very atoms at this width. That arrays, counts and widths belong together is not tested.
+   What an answer means: a product, or a completion by xor or sum, has the target's words at the sixteen points and may
+   differ elsewhere, so compare the formulas beyond the points; it is the first that fits, not the cheapest. "Nothing" is
+   certain only with a whole index of these very atoms at this width, for completions only with atoms' rows below 2^w. That
+   arrays, counts and widths belong together is not tested.
 
    Opcodes: 0 constant, 1 variable, 2 Add, 3 Mul, 4 And, 5 Or, 6 Xor, 7 Not, 8 Neg. Gates have numbers of their own: 0 And,
    1 Or, 2 Xor, 3 Add, 4 Mul.
@@ -26,6 +27,15 @@ extern "C" {
 struct simjaldek_reply {
     uint32_t refusal;
     uint32_t kind;
+    uint32_t a;
+    uint32_t b;
+};
+
+/* A completion by numbers; all zeros beside a refusal. */
+struct simjaldek_residual_reply {
+    uint32_t refusal;
+    uint32_t kind;
+    uint32_t gate;
     uint32_t a;
     uint32_t b;
 };
@@ -87,6 +97,15 @@ struct simjaldek_reply simjaldek_product_search(
     size_t pair_count,
     const uint64_t *pair_rows, size_t pair_rows_len,
     const uint32_t *order, size_t order_len,
+    const uint64_t *target, size_t target_len);
+
+/* `search_residual::residual_search`: kind 0 nothing, 1 the atoms a and b, 2 the atom a and the pair b; `gate` is the outer gate's number, 2 Xor or 3 Add. Refuses 2, 4, 5, 7. */
+struct simjaldek_residual_reply simjaldek_residual_search(
+    uint32_t w,
+    size_t atom_count,
+    const uint64_t *atom_rows, size_t atom_rows_len,
+    size_t pair_count,
+    const uint64_t *pair_rows, size_t pair_rows_len,
     const uint64_t *target, size_t target_len);
 
 /* `bank_lookup::find_row`: kind 1 the slot a, 0 none. Refuses 2, 4, 5, 7. */

@@ -18,9 +18,10 @@ const HEADER: &str = concat!(env!("CARGO_MANIFEST_DIR"), "/../../include/simjald
 const HEAD: &str = "/* The static library of Simjaldek, for C programs; docs/CALLS.md says what each call needs, refuses and answers.
    Made from the exports of crates/simjaldek and crates/simjaldek_abi by rust/simjaldek/tests/header.rs.
 
-   What an answer means: a product has the target's words at the sixteen points and may differ elsewhere, so compare the
-   formulas beyond the points; it is the first that fits, not the cheapest. \"Nothing\" is certain only with a whole index of
-   these very atoms at this width. That arrays, counts and widths belong together is not tested.
+   What an answer means: a product, or a completion by xor or sum, has the target's words at the sixteen points and may
+   differ elsewhere, so compare the formulas beyond the points; it is the first that fits, not the cheapest. \"Nothing\" is
+   certain only with a whole index of these very atoms at this width, for completions only with atoms' rows below 2^w. That
+   arrays, counts and widths belong together is not tested.
 
    Opcodes: 0 constant, 1 variable, 2 Add, 3 Mul, 4 And, 5 Or, 6 Xor, 7 Not, 8 Neg. Gates have numbers of their own: 0 And,
    1 Or, 2 Xor, 3 Add, 4 Mul.
@@ -169,5 +170,13 @@ fn a_c_program_links_and_runs() {
     assert!(compiled.expect("cc, which rustc links with").success());
     let ran = Command::new(program).output().expect("the program runs");
     let printed = String::from_utf8(ran.stdout).expect("text");
-    assert_eq!(printed, "atoms 54 pairs 5174 whole\nv0 v0 v1 + *\nthe same values at the sixteen points; elsewhere unknown\n");
+    let text = "\
+atoms 54 pairs 5174 whole
+v0 v0 v1 + *
+the same values at the sixteen points; elsewhere unknown
+atoms 53 pairs 4930 whole
+v0 v1 ^ v0 v1 + v0 v1 + * +
+the same values at the sixteen points; elsewhere unknown
+";
+    assert_eq!(printed, text);
 }
