@@ -5,7 +5,8 @@ use std::hint::black_box;
 
 use simjaldek::lent::{self, Tokens};
 use simjaldek::{
-    bitmask, AtomSlot, Bank, Cost, Formula, FormulaBuf, Index, Points, Product, Row, PAIRS_MAX,
+    bitmask, AtomSlot, Bank, Completion, Cost, Formula, FormulaBuf, Gate, Index, Points, Product,
+    Row, PAIRS_MAX,
 };
 
 use crate::setting::{BankBuffers, IndexBuffers};
@@ -29,9 +30,10 @@ const WIDTH: u32 = 64;
 const LISTED_MAX: usize = 500;
 
 /// All exports, in the library's order; `empty`, which makes no call, comes first.
-pub const CALLS: [Call; 29] = [
+pub const CALLS: [Call; 30] = [
     call("empty", "", || Box::new(|| ())),
     call("product_search", FULL_INDEX, product_search),
+    call("residual_search", FULL_INDEX, residual_search),
     call("find_row", BANK, find_row),
     call("build_index", FULL_INDEX, build_index),
     call("collect_mul_probe0_candidates", FULL_INDEX, candidates),
@@ -249,6 +251,29 @@ fn product_search() -> Work {
                 Ok(Product::Nothing),
                 Ok(Product::Atoms(..)),
                 Ok(Product::AtomPair(..)),
+            ]
+        ));
+    })
+}
+
+/// Searches that find nothing, two atoms, and an atom and a pair under either gate.
+fn residual_search() -> Work {
+    let index = index();
+    let atom = *index.bank().atoms().last().expect("it has atoms").row();
+    let pair = *index.pairs().last().expect("it has pairs").row();
+    let sum = lent::gate_apply(&atom, &pair, Gate::Add.number(), WIDTH).expect("two rows");
+    let targets = [target(), atom, pair, sum];
+    Box::new(move || {
+        let (atoms, pairs) = (index.bank().lend(), index.lend().unordered());
+        let search = |target: &Row| lent::residual_search(WIDTH, atoms, pairs, target);
+        let found = targets.each_ref().map(search);
+        assert!(matches!(
+            found,
+            [
+                Ok(Completion::Nothing),
+                Ok(Completion::Atoms(Gate::Xor, ..)),
+                Ok(Completion::AtomPair(Gate::Xor, ..)),
+                Ok(Completion::AtomPair(Gate::Add, ..)),
             ]
         ));
     })
