@@ -3,7 +3,7 @@ use mathlib.Core.Path.{_≡_, refl, sym, ap, ap₂, _∙_, subst}
 use mathlib.Core.Bool.{Bool, true, false, cond}
 use mathlib.Core.Logic.{_⊎_, inl, inr}
 use mathlib.Core.List.{List, [], _∷_, _++_, map, flatMap, append-assoc}
-use mathlib.Core.Option.{Option, none, some, Option·map, orElse, Option·none-ne-some}
+use mathlib.Core.Option.{Option, none, some, Option·map, orElse, Option·none-ne-some, Option·some-injective}
 use Prim.Native.Nat.{ℕ, zero, suc, _+_, _-_, _≤_, _<_}
 use native.Mathlib.Nat.{eq-or-lt-of-le}
 use native.Mathlib.Numerals.{add-one}
@@ -179,6 +179,16 @@ module _ {A : Type 0} (test : A → Bool) where
   unfolding firstThat
   first-none [] h = refl
   first-none (y ∷ l) h = first-no test y l (h y (inl refl)) ∙ first-none l (λ x i. h x (inr i))
+
+  -- what is the first passes, and is of the list
+  pub first-passes : (l : List A) (x : A) → firstThat test l ≡ some x → In x l × (test x ≡ true)
+  unfolding firstThat
+  first-passes [] x e = absurd (Option·none-ne-some x e)
+  first-passes (y ∷ l) x e = go (bool-cases (test y)) (λ f. first-passes l x f)
+    where
+      go : (test y ≡ true) ⊎ (test y ≡ false) → (firstThat test l ≡ some x → In x l × (test x ≡ true)) → In x (y ∷ l) × (test x ≡ true)
+      go (inl p) rest = let same : x ≡ y = Option·some-injective x y (sym e ∙ first-yes test y l p) in (inl same, ap test same ∙ p)
+      go (inr p) rest = let r = rest (sym (first-no test y l p) ∙ e) in (inr (r .0), r .1)
 
   pub none-passes : (l : List A) → firstThat test l ≡ none → (x : A) → In x l → test x ≡ false
   none-passes [] e x h = absurd h

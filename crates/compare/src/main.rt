@@ -66,6 +66,9 @@ fn line_same(line: &[u64]) -> bool {
         17 => compare_products::product_refusal_same(line),
         18 => compare_candidates::candidates_refusal_same(line),
         20 => compare_listings::head_same(line),
+        21 => compare_residuals::residual_same(line),
+        22 => compare_residuals::residual_refusal_same(line),
+        23 => compare_residuals::lent_residual_same(line),
         _ => false,
     }
 }

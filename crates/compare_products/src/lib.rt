@@ -2,7 +2,6 @@
 use compare_lines::OLD_HALF;
 use compare_lines::OLD_WORD;
 use compare_lines::narrow;
-use index::IndexAnswer;
 use search_product::ProductAnswer;
 ghost use Prim.Native.Nat.{_+_, _≤_};
 ghost use lib.ListN.{length};
@@ -29,33 +28,27 @@ pub fn product_same(line: &[u64]) -> bool {
 fn search_is(line: &[u64], at: usize, atom_count: usize, atom_rows: &[u64]) -> bool
     requires { ⌜ (at ≤ 500) × (at + 21 ≤ length (now line)) ⌝ }
 {
-    let mut pairs = [0u32; 1500];
     let mut pair_rows = [OLD_WORD; 8000];
     let mut order = [OLD_HALF; 500];
-    let mut work = [0u32; 3916];
-    let w = narrow(line[at]);
-    let built = index::build_index(
-        w,
-        atom_count,
-        atom_rows,
-        line[at + 1] as usize,
-        &mut pairs,
+    let n = compare_indexes::inner::built_rows(
         &mut pair_rows,
         &mut order,
-        &mut work,
+        line[at],
+        line[at + 1],
+        atom_count,
+        atom_rows,
     );
-    let n = pairs_of(built);
     let row = compare_lines::inner::row_at(line, at + 2);
-    let r = search_product::product_search(w, atom_count, atom_rows, n, &pair_rows, &order, row);
+    let r = search_product::product_search(
+        narrow(line[at]),
+        atom_count,
+        atom_rows,
+        n,
+        &pair_rows,
+        &order,
+        row,
+    );
     product_is(r, line, at + 18)
-}
-
-// The pairs of an answer; more than there can be where it is refused.
-fn pairs_of(r: IndexAnswer) -> usize {
-    match r {
-        IndexAnswer::Built { pairs, cut: _ } => pairs as usize,
-        IndexAnswer::Refused(_) => 501,
-    }
 }
 
 // Whether the answer is the one from `at` on.

@@ -1,29 +1,23 @@
 -- What is known where no refusal of a product search applies, and what its answer then says. Assumes nothing.
 use mathlib.Core.Path.{_≡_, sym, ap, _∙_}
-use mathlib.Core.Bool.{false, _||_}
-use mathlib.Core.List.{List, [], _∷_}
+use mathlib.Core.Bool.{_||_}
+use mathlib.Core.List.{List}
 use mathlib.Core.Option.{Option}
-use Prim.Native.Nat.{ℕ, zero, suc, _/_, _^_, _<_}
+use Prim.Native.Nat.{ℕ, _/_, _^_, _<_}
 use native.Mathlib.Omega.{arith}
-use borrow.Author.Tests.{ltb-false, leb-false, not-false}
-use lib.Dec.{ltb, leb}
-use lib.ListN.{length, getD, take}
+use borrow.Author.Tests.{ltb-false, not-false}
+use lib.Dec.{ltb}
+use lib.ListN.{length, take}
 use Rattle.limits.specs.Refusal.{badWidth, answer, refused}
 use Rattle.limits.proofs.Refusals.{within, passed, neither, enough, unless-refused, unless-not}
 use Rattle.index_order.specs.Order.{isOrder}
 use Rattle.search_filter.specs.Refusals.{shortPairs, wrongOrder}
 use Rattle.limits.specs.Limits.{tooManyPairs}
 use Rattle.row_lent.specs.Range.{reaches}
+use Rattle.row_lent.proofs.Reaching.{not-reached}
 use Rattle.search_product_trial.specs.Trying.{Product, tryEverything}
 use Rattle.search_product_trial.specs.Stages.{Lent}
 use Rattle.search_product.specs.Answer.{searchRefusal, product}
-
--- where refusal 5 doesn't apply, each word is below 2^w
-not-reached : (m : ℕ) (l : List ℕ) → reaches m l ≡ false → (j : ℕ) → j < length l → getD l j 0 < m
-unfolding reaches
-not-reached m [] e j h = absurd (omega arith)
-not-reached m (x ∷ l) e zero h = leb-false m x (neither (leb m x) (reaches m l) e .0)
-not-reached m (x ∷ l) e (suc j) h = not-reached m l (neither (leb m x) (reaches m l) e .1) j (omega arith)
 
 module _ (w count : ℕ) (atoms : List ℕ) (n : ℕ) (listed order target : List ℕ) where
   pub none-refused : searchRefusal w count atoms n listed order target ≡ 0 → length target ≡ 16 → Lent w count atoms n listed order target

@@ -11,6 +11,7 @@ use lib.ListN.{length}
 use Rattle.limits.specs.Refusal.{badWidth, answer, refused}
 use Rattle.limits.proofs.Refusals.{within, passed, neither, enough, unless-refused, unless-not}
 use Rattle.row_lent.specs.Range.{reaches}
+use Rattle.row_lent.proofs.Reaching.{not-reached}
 use Rattle.search_residual_trial.specs.Trying.{Completion, tryResiduals}
 use Rattle.search_residual.specs.Answer.{residualRefusal, completion}
 use Rattle.search_residual.specs.Notes.{Lent}
@@ -31,6 +32,7 @@ module _ (w count : ℕ) (atoms : List ℕ) (n : ℕ) (listed target : List ℕ)
         most = ltb-false _ _ (counts .1);
         rows-fit = enough 16 (length listed) n (omega arith) (rows .1);
         long = long;
+        reduced = λ j h. not-reached (2 ^ w) target (low .0) j (omega (arith, long));
       }
 
   pub says-refused : (number : ℕ) → number ≡ residualRefusal w count atoms n listed target → 0 < number → refused number ≡ completion w count atoms n listed target

@@ -3,9 +3,9 @@ use mathlib.Core.Path.{_≡_}
 use mathlib.Core.Bool.{cond}
 use mathlib.Core.List.{List}
 use mathlib.Core.Option.{Option, none, some, orElse}
-use Prim.Native.Nat.{ℕ, _-_, _*_, _≤_}
+use Prim.Native.Nat.{ℕ, _-_, _*_, _^_, _≤_, _<_}
 use lib.Dec.{eqb}
-use lib.ListN.{length}
+use lib.ListN.{length, getD}
 use Rattle.arrays.specs.Lists.{countUp, firstOf}
 use Rattle.limits.specs.Limits.{atomsMax, pairsMax}
 use Rattle.row_gates.specs.declared.Gate.{Gate}
@@ -25,6 +25,7 @@ pub record Lent (w count : ℕ) (atoms : List ℕ) (n : ℕ) (listed target : Li
   pub most : n ≤ pairsMax
   pub rows-fit : 16 * n ≤ length listed
   pub long : length target ≡ 16
+  pub reduced : (j : ℕ) → j < 16 → getD target j 0 < 2 ^ w
 
 -- what each case of `Part` and of `Lookup` says of atom a under g
 abbrev pub partSays : Gate → ℕ → Part → Completion

@@ -1,0 +1,99 @@
+-- 02, 2.1: what is shown completes to the target, and nothing is found exactly when no sum and no xor is the target. Assumes nothing.
+use mathlib.Core.Path.{_≡_, refl, sym, ap, _∙_, subst}
+use mathlib.Core.Bool.{true}
+use mathlib.Core.Logic.{_⊎_, inl, inr}
+use mathlib.Core.List.{List}
+use mathlib.Core.Option.{some}
+use Prim.Native.Nat.{ℕ, _*_, _^_, _≤_, _<_}
+use native.Mathlib.Omega.{arith}
+use lib.ListN.{length, getD}
+use Rattle.arrays.specs.Parts.{partAt}
+use Rattle.arrays.proofs.Lists.{false-true, is-false}
+use Rattle.arrays.proofs.Parts.{length-part}
+use Rattle.row_gates.specs.Gates.{gateRow, sameRow}
+use Rattle.row_gates.specs.declared.Gate.{Gate}
+use Rattle.row_gates.proofs.GateLaws.{gate-lt}
+use Rattle.row_gates.proofs.Rows.{getD-gateRow}
+use Rattle.search_product.specs.Demand.{OwnIndex, Uncut}
+use Rattle.search_product.proofs.OwnPairs.{Has, Fit, answered, zero-of, atom-long, gate-row-long, pair-gated, none-lost}
+use Rattle.search_residual_trial.specs.Trying.{Completion, completing, hits, tryResiduals}
+use Rattle.search_residual.specs.Answer.{residualRefusal}
+use Rattle.search_residual.specs.Notes.{Lent}
+use Rattle.search_residual.proofs.Passing.{none-refused}
+use Rattle.search_residual_spec.specs.Sums.{Outer, Gives, RowsBelow, NoResidual, Completes, ShownCompletes, NothingCompletes, SumsAndXors}
+use Rattle.search_residual_spec.proofs.Trials.{hit-gives, gives-hit, Tried, NoneHits, nothing-hits, hits-nothing, Found, found-hits}
+
+-- ---- what is shown
+module _ {w count : ℕ} {atoms : List ℕ} {n : ℕ} {listed target : List ℕ} (lent : Lent w count atoms n listed target) where
+  long-atom : (a : ℕ) → a < count → length (partAt 16 atoms a) ≡ 16
+  long-atom a h = length-part 16 atoms a (omega (arith, lent .atoms-fit))
+
+  -- a row that a lookup of atom a found
+  given : (outer : Gate) → Outer outer → (a : ℕ) → a < count → (row : List ℕ) → sameRow row (completing outer w target atoms a) ≡ true → Gives outer w target (partAt 16 atoms a) row
+  given outer o a h row = hit-gives outer o w target atoms a row (lent .long) (long-atom a h) (lent .reduced)
+
+  completes : (x : Completion) → Tried w count atoms n listed target x → hits w atoms listed target x ≡ true → Completes w count atoms n listed target x
+  unfolding hits
+  completes x (Tried.two _ g a b e o ha hb) hit =
+      subst (λ (y : Completion). Completes w count atoms n listed target y) (sym e)
+      record { gate = o; atom = ha; within = hb; gives = given g o a ha (partAt 16 atoms b) (ap (hits w atoms listed target) (sym e) ∙ hit) }
+  completes x (Tried.pair _ g a s e o ha hs) hit =
+      subst (λ (y : Completion). Completes w count atoms n listed target y) (sym e)
+      record { gate = o; atom = ha; within = hs; gives = given g o a ha (partAt 16 listed s) (ap (hits w atoms listed target) (sym e) ∙ hit) }
+
+-- ---- "nothing"
+module _ {w count : ℕ} {atoms : List ℕ} {L n : ℕ} {listed order target : List ℕ} (lent : Lent w count atoms n listed target) (below : RowsBelow w count atoms)
+    (own : OwnIndex w count atoms L n listed order) (fit : Fit w count atoms L) where
+  -- a gate's row of two atoms has words below 2^w
+  gate-below : (g : Gate) (b c : ℕ) → b < count → c < count → (j : ℕ) → j < 16 → getD (gateRow g w (partAt 16 atoms b) (partAt 16 atoms c)) j 0 < 2 ^ w
+  gate-below g b c hb hc j h =
+      subst (λ (x : ℕ). x < 2 ^ w) (sym (getD-gateRow g w (partAt 16 atoms b) (partAt 16 atoms c) j (omega (arith, long-atom lent b hb)) (omega (arith, long-atom lent c hc))))
+      (gate-lt g w (getD (partAt 16 atoms b) j 0) (getD (partAt 16 atoms c) j 0) (below b j hb h) (below c j hc h))
+
+  -- a row that is an atom's or a pair's, and gives the target with atom a
+  with-row : NoneHits w count atoms n listed target → (outer : Gate) → Outer outer → (a : ℕ) (row : List ℕ) → a < count → length row ≡ 16 → ((j : ℕ) → j < 16 → getD row j 0 < 2 ^ w)
+      → Has count atoms row ⊎ Has n listed row → Gives outer w target (partAt 16 atoms a) row → ⊥
+  with-row lacks outer o a row ha l low h gives = elim h [
+    | inl i ↦ false-true (sym (lacks .two outer o a (i .slot) ha (i .below)) ∙ subst (λ (r : List ℕ). sameRow r (completing outer w target atoms a) ≡ true) (sym (i .is)) hit)
+    | inr i ↦ false-true (sym (lacks .pair outer o a (i .slot) ha (i .below)) ∙ subst (λ (r : List ℕ). sameRow r (completing outer w target atoms a) ≡ true) (sym (i .is)) hit)
+  ]
+    where
+      hit : sameRow row (completing outer w target atoms a) ≡ true
+      hit = gives-hit outer o w target atoms a row (lent .long) (long-atom lent a ha) l low gives
+
+  no-residual : Uncut w count atoms L → NoneHits w count atoms n listed target → NoResidual w count atoms target
+  no-residual uncut lacks = record {
+    of-two = λ outer o a b ha hb. with-row lacks outer o a _ ha (atom-long fit b hb) (λ j h. below b j hb h) (inl (record { slot = b; below = hb; is = refl }));
+    of-gate = λ outer o g a b c ha hb hc. with-row lacks outer o a _ ha (gate-row-long fit g b c hb hc) (gate-below g b c hb hc) (none-lost fit own uncut g b c hb hc);
+  }
+
+  -- this half holds of a cut index too
+  none-hits : NoResidual w count atoms target → NoneHits w count atoms n listed target
+  none-hits lacks = record {
+    two = λ outer o a b ha hb. is-false _ (λ e. lacks .of-two outer o a b ha hb (given lent outer o a ha (partAt 16 atoms b) e));
+    pair = λ outer o a s ha hs. is-false _ (λ e.
+        let p = pair-gated fit own s hs in
+        lacks .of-gate outer o (p .g) a (p .b) (p .c) ha (p .b-below) (p .c-below)
+        (given lent outer o a ha _ (subst (λ (r : List ℕ). sameRow r (completing outer w target atoms a) ≡ true) (p .is) e)));
+  }
+
+-- ---- the statements
+pub shown-completes : ShownCompletes
+shown-completes w count atoms n listed target shown long e =
+    let number = residualRefusal w count atoms n listed target in
+    let done = answered number (tryResiduals w count atoms n listed target) (some shown) e in
+    let found = found-hits w count atoms n listed target shown (done .is) in
+    completes (none-refused w count atoms n listed target (zero-of number (done .free)) long) shown (found .is-tried) (found .hit)
+
+pub nothing-completes : NothingCompletes
+nothing-completes w count atoms L n listed order target found below own uncut long e =
+    let number = residualRefusal w count atoms n listed target in
+    let done = answered number (tryResiduals w count atoms n listed target) found e in
+    let lent = none-refused w count atoms n listed target (zero-of number (done .free)) long in
+    let fit : Fit w count atoms L = record { rows = lent .atoms-fit } in (
+      λ is. no-residual lent below own fit uncut (nothing-hits w count atoms n listed target (done .is ∙ is)),
+      λ lacks. sym (done .is) ∙ hits-nothing w count atoms n listed target (none-hits lent below own fit lacks),
+    )
+
+pub sums-and-xors : SumsAndXors
+sums-and-xors w count atoms L n listed order target found bank = nothing-completes w count atoms L n listed order target found
