@@ -76,9 +76,9 @@ pub extern "C" fn simjaldek_residual_search(
 ) -> ResidualReply
     ensures { λ r. ⌜ r ≡ residualReply (orElse (rowRefusal w (now (target .entry))) (completion w «atom_count» (now («atom_rows» .entry)) «pair_count» (now («pair_rows» .entry)) (rowIn (now (target .entry))))) ⌝ }
 {
-    let refusal = slices::row_refusal(w, target);
-    if refusal != 0 {
-        return replies::refused_residual(refusal);
+    let number = slices::row_refusal(w, target);
+    if number != 0 {
+        return replies::refused_residual(number);
     }
     let row = row_lent::inner::load_row(target, 0);
     replies::of_residual(search_residual::residual_search(
