@@ -158,7 +158,7 @@ pub fn product_search(
 
 /// The first atom that an atom or a pair completes to the target, under Xor, else under Add: atoms ascending, for each first the atoms,
 /// then the pairs, by slot; in the order of the search, not the cheapest. A row completes an atom where it is, word for word, the atom's
-/// [`gate_residual`]; where all words are below 2^w the xor or sum of the two is then the target. It has the target's words at the points
+/// [`gate_residual`]: the xor, or the sum modulo 2^w, of the two is the target, on whatever rows are lent. It has the target's words at the points
 /// and may differ elsewhere. "Nothing" is certain only with a whole index of these very atoms at this width, and atoms' rows below 2^w.
 /// Refuses 2, 4, 5, 7.
 pub fn residual_search(
@@ -513,7 +513,7 @@ pub fn gate_apply(a: &[u64], b: &[u64], gate: u32, width: u32) -> Result<Row, Re
     unless_refused(reply.refusal, reply.row)
 }
 
-/// What completes `a` to the target under Xor and Add, where all words are below 2^w; zeros under the other gates. Refuses 2, 4, and 6
+/// What completes `a` to the target under Xor and Add, where the target's words are below 2^w; zeros under the other gates. Refuses 2, 4, and 6
 /// for a number above 4.
 pub fn gate_residual(target: &[u64], a: &[u64], gate: u32, width: u32) -> Result<Row, Refusal> {
     // SAFETY: each pointer comes with its own slice's length; the function reads within these lengths and keeps no pointer.

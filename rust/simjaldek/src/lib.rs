@@ -135,7 +135,7 @@ pub fn gate_apply(a: &Row, b: &Row, gate: Gate, width: u32) -> Result<Row, Refus
     lent::gate_apply(a, b, gate.number(), width)
 }
 
-/// What completes `a` to the target under Xor and Add, where all words are below 2^w; zeros under the other gates. Refuses 2.
+/// What completes `a` to the target under Xor and Add, where the target's words are below 2^w; zeros under the other gates. Refuses 2.
 pub fn gate_residual(target: &Row, a: &Row, gate: Gate, width: u32) -> Result<Row, Refusal> {
     lent::gate_residual(target, a, gate.number(), width)
 }
