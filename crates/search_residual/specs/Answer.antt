@@ -18,13 +18,13 @@ residualRefusal w count atoms n listed target =
     (refuse (reaches (2 ^ w) target) 5
     (refuse (tooManyAtoms count || tooManyPairs n) 7 0)))
 
--- what each case of `ResidualAnswer` says: the outer gate and two atom slots, or the gate, an atom slot and a pair slot, none, or its refusal
+-- 01, Expected forms ..: what each case of `ResidualAnswer` says: the outer gate and two atom slots, or the gate, an atom slot and a pair slot, none, or its refusal
 abbrev pub residualSays : ResidualAnswer → Outcome (Option Completion)
 residualSays (Atoms g a b) = answer (some (Completion.ofAtoms g (a .0) (b .0)))
 residualSays (AtomPair g a s) = answer (some (Completion.ofPair g (a .0) (s .0)))
 residualSays Nothing = answer none
 residualSays (Refused number) = refused number
 
--- 02, 2.1: on whatever bank and index are lent, the answer of trying everything in this order
+-- 01, calls over a lent bank or index work on its contents as they are: the answer is that of trying everything in 02's order
 abbrev pub completion : ℕ → ℕ → List ℕ → ℕ → List ℕ → List ℕ → Outcome (Option Completion)
 completion w count atoms n listed target = outcome (residualRefusal w count atoms n listed target) (tryResiduals w count atoms n listed target)

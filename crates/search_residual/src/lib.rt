@@ -1,4 +1,4 @@
-// The residual search, 02's sums and xors: template_decomposer.rs, the residual lookups of `layer1` and `layer2`, without the sampling check.
+// The residual search, 02's sums and xors: what `gate_residual` of cobra-simd gives, looked up as `ValMap::find` of template_decomposer.rs does; the order is 02's.
 pub mod inner;
 
 use row_gates::Gate;
@@ -8,7 +8,7 @@ use search_residual_trial::inner::Found;
 ghost use mathlib.Core.Path.{_≡_};
 ghost use Rattle.search_residual.specs.Answer.{residualSays, completion};
 
-// 02, 2.1: the outer gate and two atom slots, or the gate, an atom slot and a pair slot, or none; or the refusal.
+// 02, 2.1: the outer gate and both parts named, two atom slots or an atom slot and a pair slot; or none; or the refusal.
 pub enum ResidualAnswer {
     Atoms(Gate, AtomSlot, AtomSlot),
     AtomPair(Gate, AtomSlot, PairSlot),
@@ -16,7 +16,7 @@ pub enum ResidualAnswer {
     Refused(u32),
 }
 
-// Finds the first atom that another atom or a listed pair completes to the target, under Xor, then under Add; in 02's order. Refuses 2, 4, 5, 7.
+// Finds the first atom that an atom, itself or another, or a listed pair completes to the target, under Xor, then under Add; in 02's order. Refuses 2, 4, 5, 7.
 pub fn residual_search(
     w: u32,
     atom_count: usize,

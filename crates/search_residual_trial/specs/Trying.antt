@@ -23,7 +23,7 @@ pub data Completion : Type 0 where
 abbrev pub completing : Gate → ℕ → List ℕ → List ℕ → ℕ → List ℕ
 completing g w target atoms a = residualRow g w target (partAt 16 atoms a)
 
--- a lookup hits where that row stands, word for word
+-- 02, 2.1: the row is looked up: a lookup hits where it stands, word for word
 unfoldable pub hits : ℕ → List ℕ → List ℕ → List ℕ → Completion → Bool
 unfolding residualRow sameRow partAt
 hits w atoms listed target (Completion.ofAtoms g a b) = sameRow (partAt 16 atoms b) (completing g w target atoms a)
@@ -34,7 +34,7 @@ unfoldable pub lookups : ℕ → ℕ → Gate → ℕ → List Completion
 unfolding countUp
 lookups count n g a = map (Completion.ofAtoms g a) (countUp 0 count) ++ map (Completion.ofPair g a) (countUp 0 n)
 
--- 02, 2.1: for each atom a ascending
+-- 02, 2.1: for each atom a ascending. A row that isn't found ends that atom's turn: the next atom's lookups follow
 unfoldable pub underGate : ℕ → ℕ → Gate → List Completion
 unfolding flatMap countUp lookups
 underGate count n g = flatMap (lookups count n g) (countUp 0 count)
