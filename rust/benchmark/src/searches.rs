@@ -4,7 +4,7 @@
 use std::hint::black_box;
 
 use oracle::access::{self, Row};
-use oracle::spec::search::{product, Answer};
+use oracle::spec::product::{product, Answer};
 use simjaldek::lent;
 use simjaldek::{AtomSlot, PairSlot, Product, ROW_WORDS};
 

@@ -2,7 +2,7 @@
 
 use oracle::access::{self, AtomView, Formula, Row};
 use oracle::inputs::Inputs;
-use oracle::spec::search as spec;
+use oracle::spec::product as spec;
 use simjaldek::lent::{self, Atoms, Pairs};
 use simjaldek::{AtomSlot, PairSlot, Product, Refusal};
 

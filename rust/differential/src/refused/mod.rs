@@ -23,7 +23,7 @@ pub fn compare(inputs: &mut Inputs, report: &mut Report) {
         banks::atom_row(inputs, report);
         indexes::build(inputs, report);
         searches::candidates(inputs, report);
-        searches::search(inputs, report);
+        searches::product(inputs, report);
         formulas::compare(inputs, report);
     }
     words::compare(inputs, report);

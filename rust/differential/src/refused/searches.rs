@@ -4,8 +4,8 @@ use oracle::inputs::Inputs;
 use oracle::spec::bank::ATOMS_MAX;
 use oracle::spec::index::PAIRS_MAX;
 use oracle::spec::lent as spec;
+use oracle::spec::product::order_list;
 use oracle::spec::refusals::{least, NONE, REFUSED_LENGTH, REFUSED_WIDTH};
-use oracle::spec::search::order_list;
 use simjaldek::lent::{self, Atoms, Pairs};
 
 use super::{claimed, cut, damages, length, number, padded, reach, row_words, widths};
@@ -120,7 +120,7 @@ pub fn candidates(inputs: &mut Inputs, report: &mut Report) {
     report.refusal(Kind::RefusedCandidates, &input, ours, handed.refusal());
 }
 
-pub fn search(inputs: &mut Inputs, report: &mut Report) {
+pub fn product(inputs: &mut Inputs, report: &mut Report) {
     let (good, width) = widths(inputs);
     let lent = Lent::new(inputs, good);
     let any = inputs.below(5) as usize;
@@ -136,7 +136,7 @@ pub fn search(inputs: &mut Inputs, report: &mut Report) {
         lent.pairs(),
         &target,
     ));
-    let handed = spec::Search {
+    let handed = spec::ProductSearch {
         width: width.into(),
         count: count as u64,
         atoms: rows.len() as u64,
@@ -149,7 +149,7 @@ pub fn search(inputs: &mut Inputs, report: &mut Report) {
         handed.refusal()
     };
     let input = (width, count, rows.len(), lent.told(), target);
-    report.refusal(Kind::RefusedSearch, &input, (refused, true), expected);
+    report.refusal(Kind::RefusedProduct, &input, (refused, true), expected);
 }
 
 /// A target that is too short: 4, unless the width is refused.

@@ -7,7 +7,7 @@ use super::{Setting, PAIRS_MAX};
 use crate::inputs::{one_variable, repeated};
 use crate::made::banks::BankInput;
 use crate::spec::formulas::{CONSTANT, VARIABLE};
-use crate::spec::search::{self, Answer};
+use crate::spec::product::{self, Answer};
 
 /// An input of one variable: the bank's width, points and target (one word throughout), the width of index and search, the
 /// row searched for; then the specification's answer and the Rust's.
@@ -189,8 +189,8 @@ fn print_lent() {
 fn print_lent_case(name: &str, atoms: &[u64], pairs: &[u64], width: u32, target: u64) {
     let rows = |words: &[u64]| -> Vec<Row> { words.iter().map(|&word| [word; 16]).collect() };
     let (atom_rows, pair_rows, target_row) = (rows(atoms), rows(pairs), [target; 16]);
-    let order = search::order_list(pairs);
-    let answer = search::try_everything(&target_row, &atom_rows, &pair_rows, &order, width);
+    let order = product::order_list(pairs);
+    let answer = product::try_everything(&target_row, &atom_rows, &pair_rows, &order, width);
     let rust = access::product_loop(target_row, &atom_rows, &pair_rows, width);
     println!("D1, lent rows, {name}: width {width}, atoms all {atoms:?}, pairs all {pairs:?}, target all {target}");
     println!("  trying everything: {answer:?}; Rust's product loop: {rust:?}");

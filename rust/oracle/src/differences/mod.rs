@@ -11,7 +11,7 @@ mod smallest;
 use crate::access::{self, AtomView, Cost, Formula, IndexView, Row};
 
 use crate::spec::formulas as spec;
-use crate::spec::search::{self, Answer};
+use crate::spec::product::{self, Answer};
 
 /// The Rust's limit of an index.
 const PAIRS_MAX: usize = 1 << 18;
@@ -44,7 +44,7 @@ impl Setting {
     }
 
     pub fn try_everything(&self, target: &Row) -> Answer {
-        search::try_everything(
+        product::try_everything(
             target,
             &self.rows,
             &self.index.rows,
@@ -54,7 +54,7 @@ impl Setting {
     }
 
     pub fn second_stage(&self, target: &Row) -> Option<(usize, usize)> {
-        search::second_stage(
+        product::second_stage(
             target,
             &self.rows,
             &self.index.rows,

@@ -5,7 +5,7 @@ use crate::access::{self, AtomView, Formula, Row};
 use super::{joined, Setting, PAIRS_MAX};
 use crate::inputs::Inputs;
 use crate::spec::formulas::{self as spec, GATE_OPS, MUL, VARIABLE};
-use crate::spec::search;
+use crate::spec::product;
 
 /// The generator's number; no kind of line has it.
 const GENERATOR: u64 = 1000;
@@ -109,13 +109,13 @@ fn random_target(inputs: &mut Inputs, setting: &Setting) -> Row {
     let atom = inputs.one_of(&setting.rows);
     if setting.index.rows.is_empty() || inputs.below(8) == 0 {
         let other = inputs.one_of(&setting.rows);
-        return search::product(&atom, &other, width);
+        return product::product(&atom, &other, width);
     }
     if inputs.below(8) == 0 {
         return random_row(inputs, width);
     }
     let pair = inputs.one_of(&setting.index.rows);
-    let mut target = search::product(&atom, &pair, width);
+    let mut target = product::product(&atom, &pair, width);
     if inputs.below(4) == 0 {
         let place = inputs.below(16) as usize;
         target[place] = inputs.word_of_width(width);
@@ -150,7 +150,7 @@ fn check_index(setting: &Setting) {
         };
         assert_eq!(*row, std::array::from_fn(value));
     }
-    assert_eq!(index.order, search::order_list(&first_words(&index.rows)));
+    assert_eq!(index.order, product::order_list(&first_words(&index.rows)));
 }
 
 fn first_words(rows: &[Row]) -> Vec<u64> {
@@ -177,7 +177,7 @@ fn check_second_stage(tally: &mut Tally, setting: &Setting, target: Row) {
 
 fn check_first_stage(tally: &mut Tally, setting: &Setting, target: Row) {
     let chosen = setting.two_atoms(target);
-    let first = search::first_stage(&target, &setting.rows, setting.width);
+    let first = product::first_stage(&target, &setting.rows, setting.width);
     assert_eq!(chosen.is_some(), first.is_some());
     tally.first_stages += 1;
     let whole = access::layer1(target, &setting.atoms, setting.width);
@@ -198,7 +198,7 @@ fn check_candidates(tally: &mut Tally, inputs: &mut Inputs, setting: &Setting, t
     let even = any & (u64::MAX << inputs.below(12));
     for p in [inputs.one_of(&setting.rows)[0], any, even] {
         let (used, list) = access::candidates(&words, p, t, width);
-        let expected = search::candidates(&words, p, t, width);
+        let expected = product::candidates(&words, p, t, width);
         assert_eq!(
             (used, list),
             (expected.is_some(), expected.unwrap_or_default())

@@ -10,7 +10,7 @@ use crate::access::{self, AtomView, Row};
 
 use super::{repeated_points, Setting, PAIRS_MAX};
 use crate::inputs::one_variable;
-use crate::spec::search::{self, Answer};
+use crate::spec::product::{self, Answer};
 
 pub fn print() {
     for (bank_width, width) in [(2, 1), (3, 1), (3, 2)] {
@@ -189,7 +189,7 @@ fn keep_least(least: &mut Option<([usize; 2], String)>, key: [usize; 2], text: &
 }
 
 fn sorted_answers(atoms: &[Row], pairs: &[Row], width: u32) -> Vec<(Row, Answer)> {
-    let mut answers: Vec<(Row, Answer)> = search::all_answers(atoms, pairs, width)
+    let mut answers: Vec<(Row, Answer)> = product::all_answers(atoms, pairs, width)
         .into_iter()
         .collect();
     answers.sort_by_key(|found| found.0);

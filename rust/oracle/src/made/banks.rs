@@ -4,7 +4,7 @@ use crate::access::{self, AtomView, Row};
 use crate::inputs::Inputs;
 use crate::made::formulas::{Lean, Maker};
 use crate::spec::bank as spec;
-use crate::spec::search::product;
+use crate::spec::product::product;
 
 /// What a bank is built from: points of one word for each variable, all words below 2^width.
 #[derive(Clone)]

@@ -4,10 +4,10 @@ use crate::access::Row;
 
 use super::bank::ATOMS_MAX;
 use super::index::PAIRS_MAX;
+use super::product::order_list;
 use super::refusals::{
     NONE, REFUSED_COUNT, REFUSED_LENGTH, REFUSED_ORDER, REFUSED_WIDTH, REFUSED_WORD,
 };
-use super::search::order_list;
 
 /// The listed pairs.
 #[derive(Clone)]
@@ -86,7 +86,7 @@ fn reaches(word: u64, width: u64) -> bool {
 
 /// What is handed to the product search; of the atoms' rows their length.
 #[derive(Clone)]
-pub struct Search {
+pub struct ProductSearch {
     pub width: u64,
     pub count: u64,
     pub atoms: u64,
@@ -94,7 +94,7 @@ pub struct Search {
     pub target: Row,
 }
 
-impl Search {
+impl ProductSearch {
     /// The table for the product search: 2, 4, 5, 7, 8, the least that applies.
     pub fn refusal(&self) -> u64 {
         if !(1..=64).contains(&self.width) {

@@ -6,5 +6,5 @@ pub mod formulas;
 pub mod index;
 pub mod lent;
 pub mod listing;
+pub mod product;
 pub mod refusals;
-pub mod search;

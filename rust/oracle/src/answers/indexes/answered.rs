@@ -8,7 +8,7 @@ use crate::digest::digest;
 use crate::inputs::{one_variable, repeated, Inputs};
 use crate::made::banks::{BankInput, Points, Target};
 use crate::spec::index as spec;
-use crate::spec::search::order_list;
+use crate::spec::product::order_list;
 
 /// The largest limit in the file.
 const LIMIT_MAX: usize = 500;

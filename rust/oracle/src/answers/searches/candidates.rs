@@ -7,8 +7,8 @@ use crate::answers::data_file::DataFile;
 use crate::inputs::Inputs;
 use crate::made::banks::largest;
 use crate::spec::lent::{Candidates, Pairs};
+use crate::spec::product as spec;
 use crate::spec::refusals::{NONE, REFUSED_ORDER, REFUSED_WIDTH, REFUSED_WORD};
-use crate::spec::search as spec;
 
 const USED: u64 = 0;
 const NOT_USED: u64 = 1;
@@ -412,7 +412,7 @@ fn widths(file: &mut DataFile, inputs: &mut Inputs) {
 mod tests {
     use super::{a_solution, Input};
     use crate::made::banks::largest;
-    use crate::spec::search::product_word;
+    use crate::spec::product::product_word;
 
     /// For all p and t, over words of one bit more: the Rust's list is the specification's but for what reaches 2^width
     /// (`Input::candidates` tells), and there is a solution where `a_solution` says so.

@@ -10,7 +10,7 @@ use crate::differences::Setting;
 use crate::inputs::{one_variable, repeated, Inputs};
 use crate::made::banks::{largest, BankInput};
 use crate::spec::index as spec;
-use crate::spec::search::{first_stage, fits, is_used, product, Answer};
+use crate::spec::product::{first_stage, fits, is_used, product, Answer};
 
 /// The largest limit in the file.
 const LIMIT_MAX: usize = 500;

@@ -5,7 +5,7 @@ use super::{faulty, zero_pairs, Fault, ARRAY_MAX, BAD_WIDTHS, HUGE, PRODUCTS_REF
 use crate::answers::data_file::DataFile;
 use crate::made::banks::largest;
 use crate::spec::index::PAIRS_MAX;
-use crate::spec::lent::Search;
+use crate::spec::lent::ProductSearch;
 use crate::spec::refusals::{
     NONE, REFUSED_COUNT, REFUSED_LENGTH, REFUSED_ORDER, REFUSED_WIDTH, REFUSED_WORD,
 };
@@ -27,7 +27,7 @@ impl Handed {
     fn refusal(&self) -> u64 {
         let mut target = [0; 16];
         target[15] = self.word;
-        let search = Search {
+        let search = ProductSearch {
             width: self.width,
             count: self.count,
             atoms: self.atoms,
