@@ -8,6 +8,7 @@
 mod bank;
 mod formulas;
 mod index;
+mod residual;
 mod search;
 
 use super::{ProbeVals, ALL_GATES, N_PROBES};
@@ -15,6 +16,7 @@ use super::{ProbeVals, ALL_GATES, N_PROBES};
 pub use bank::{bank, AtomView, Pool};
 pub use formulas::{compute_cost, eval, expr_of, is_better, Cost, Formula};
 pub use index::{index, IndexView, Inner};
+pub use residual::{completion_over, completions, Completion, Part};
 pub use search::{
     candidates, first_two_atoms, layer1, layer2, product_loop, product_loop_over, product_loops,
     two_atoms,

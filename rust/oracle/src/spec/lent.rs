@@ -1,4 +1,4 @@
-//! What is handed to the candidates and to the product search, good or not.
+//! What is handed to the candidates and to the searches, good or not.
 
 use crate::access::Row;
 
@@ -107,6 +107,34 @@ impl ProductSearch {
             REFUSED_COUNT
         } else if !self.pairs.is_ordered() {
             REFUSED_ORDER
+        } else {
+            NONE
+        }
+    }
+}
+
+/// What is handed to the residual search; of the atoms' and the pairs' rows their lengths.
+#[derive(Clone)]
+pub struct ResidualSearch {
+    pub width: u64,
+    pub count: u64,
+    pub atoms: u64,
+    pub pairs: u64,
+    pub listed: u64,
+    pub target: Row,
+}
+
+impl ResidualSearch {
+    /// The table for the residual search: 2, 4, 5, 7, the least that applies.
+    pub fn refusal(&self) -> u64 {
+        if !(1..=64).contains(&self.width) {
+            REFUSED_WIDTH
+        } else if is_short(self.atoms, 16, self.count) || is_short(self.listed, 16, self.pairs) {
+            REFUSED_LENGTH
+        } else if self.target.iter().any(|&word| reaches(word, self.width)) {
+            REFUSED_WORD
+        } else if self.count > ATOMS_MAX as u64 || self.pairs > PAIRS_MAX {
+            REFUSED_COUNT
         } else {
             NONE
         }

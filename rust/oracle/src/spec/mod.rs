@@ -8,3 +8,4 @@ pub mod lent;
 pub mod listing;
 pub mod product;
 pub mod refusals;
+pub mod residual;
