@@ -8,6 +8,7 @@ use simjaldek::{ATOMS_MAX, PAIRS_MAX};
 
 use crate::buffers::{extra, flat, IndexBuffers};
 use crate::report::{Kind, Report};
+use crate::residuals;
 use crate::searches::Lent;
 
 /// The listing program's largest limit.
@@ -33,6 +34,12 @@ impl Setting {
             index,
             width,
         }
+    }
+
+    /// One of the limits.
+    pub fn limit(&self, inputs: &mut Inputs) -> usize {
+        let limits = self.limits(inputs);
+        inputs.one_of(&limits)
     }
 
     /// Compares the index at several limits, and gives one of them.
@@ -105,6 +112,17 @@ impl Setting {
             atoms: self.atoms.clone(),
             pairs: self.index.rows[..count].to_vec(),
             width: self.width,
+        }
+    }
+
+    /// The same for residual searches.
+    pub fn lent_rows(&self, limit: usize) -> residuals::Lent {
+        let count = limit.min(self.index.all);
+        residuals::Lent {
+            atoms: self.rows.clone(),
+            pairs: self.index.rows[..count].to_vec(),
+            width: self.width,
+            whole: !self.is_cut(limit),
         }
     }
 }

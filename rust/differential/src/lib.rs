@@ -12,6 +12,7 @@ mod indexes;
 mod listings;
 mod refused;
 pub mod report;
+mod residuals;
 mod searches;
 mod words;
 
@@ -19,7 +20,7 @@ use oracle::inputs::Inputs;
 use oracle::made::banks::BankInput;
 
 use indexes::Setting;
-use report::Report;
+use report::{Kind, Report};
 
 /// The variable counts.
 const VARIABLE_COUNTS: [u32; 6] = [1, 2, 3, 4, 5, 6];
@@ -30,6 +31,9 @@ const INDEX_VARIABLE_COUNTS: [u32; 24] = [
 
 /// Banks of a round; the last gets indexes and searches.
 const BANKS: usize = 4;
+/// Lent banks of each kind in a round of residual searches alone, and calls that may be refused.
+const RESIDUAL_BANKS: usize = 8;
+const RESIDUAL_REFUSALS: usize = 32;
 
 /// Rounds until at least `count` results are compared.
 pub fn run(seed: u64, count: u64) -> Report {
@@ -42,11 +46,20 @@ pub fn run(seed: u64, count: u64) -> Report {
     report
 }
 
+/// Rounds of residual searches alone until at least `count` of them are compared with the originals.
+pub fn run_residuals(seed: u64, count: u64) -> Report {
+    let mut report = Report::new(seed);
+    let mut number = 0;
+    while report.of_kind(Kind::ResidualSearch) < count {
+        residual_round(seed, number, &mut report);
+        number += 1;
+    }
+    report
+}
+
 /// One round: banks, indexes and searches, formulas, words, listings, and what is refused.
 pub fn round(seed: u64, number: u64, report: &mut Report) {
-    report.begin(number);
-    let start = Inputs::from_seed(number).word();
-    let inputs = &mut Inputs::from_seed(seed ^ start);
+    let inputs = &mut begin(seed, number, report);
     for _ in 1..BANKS {
         let input = bank_input(inputs, &VARIABLE_COUNTS);
         banks::compare(inputs, report, &input);
@@ -60,10 +73,39 @@ pub fn round(seed: u64, number: u64, report: &mut Report) {
     searches::compare(inputs, report, &setting.lent(limit));
     let made = searches::made(inputs);
     searches::compare(inputs, report, &made);
+    residuals::compare(inputs, report, &setting.lent_rows(limit));
+    residuals::compare_made(inputs, report);
     formulas::compare(inputs, report, &input.points, width);
     words::compare(inputs, report);
     listings::compare(inputs, report);
     refused::compare(inputs, report);
+}
+
+/// One round of residual searches: over a built bank, every other time at a lesser width, with an index of two limits, and over lent
+/// banks; and what they refuse.
+pub fn residual_round(seed: u64, number: u64, report: &mut Report) {
+    let inputs = &mut begin(seed, number, report);
+    let input = bank_input(inputs, &INDEX_VARIABLE_COUNTS);
+    let lesser = 1 + inputs.below(u64::from(input.width)) as u32;
+    let width = inputs.one_of(&[lesser, input.width]);
+    let setting = Setting::new(input.bank(), width);
+    for _ in 0..2 {
+        let limit = setting.limit(inputs);
+        residuals::compare(inputs, report, &setting.lent_rows(limit));
+    }
+    for _ in 0..RESIDUAL_BANKS {
+        residuals::compare_made(inputs, report);
+    }
+    for _ in 0..RESIDUAL_REFUSALS {
+        refused::residual(inputs, report);
+    }
+}
+
+/// The generator of a round.
+fn begin(seed: u64, number: u64, report: &mut Report) -> Inputs {
+    report.begin(number);
+    let start = Inputs::from_seed(number).word();
+    Inputs::from_seed(seed ^ start)
 }
 
 /// Points and target of any style.

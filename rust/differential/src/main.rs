@@ -1,4 +1,6 @@
 //! `differential SEED COUNT`: rounds until so many results are compared. `differential SEED round NUMBER`: that round again.
+//! `differential SEED residuals COUNT`: rounds of residual searches alone until there are so many; `SEED residuals round NUMBER`: that
+//! round again.
 //! Exit status 1 where a result differs in a way that docs/DIFFERENCES.md doesn't have.
 //! `differential answers NAME`: the data file of that name of crates/compare/data, the originals' answers for the program that compares.
 //! `differential differences`: where the originals' search differs from the specification, for a reader.
@@ -26,7 +28,7 @@ fn main() -> ExitCode {
 
 fn usage() -> ExitCode {
     eprintln!(
-        "usage: differential SEED COUNT | SEED round NUMBER | answers {} | differences",
+        "usage: differential SEED [residuals] COUNT | SEED [residuals] round NUMBER | answers {} | differences",
         answers::NAMES.join("|")
     );
     ExitCode::from(2)
@@ -48,12 +50,20 @@ fn asked(words: &[&str]) -> Option<Report> {
     let number = |text: &str| text.parse::<u64>().ok();
     match *words {
         [seed, count] => Some(differential::run(number(seed)?, number(count)?)),
-        [seed, "round", round] => {
-            let (seed, round) = (number(seed)?, number(round)?);
-            let mut report = Report::new(seed);
-            differential::round(seed, round, &mut report);
-            Some(report)
+        [seed, "residuals", count] => {
+            Some(differential::run_residuals(number(seed)?, number(count)?))
+        }
+        [seed, "round", round] => one(differential::round, number(seed)?, number(round)?),
+        [seed, "residuals", "round", round] => {
+            one(differential::residual_round, number(seed)?, number(round)?)
         }
         _ => None,
     }
+}
+
+/// The report of one round.
+fn one(round: fn(u64, u64, &mut Report), seed: u64, number: u64) -> Option<Report> {
+    let mut report = Report::new(seed);
+    round(seed, number, &mut report);
+    Some(report)
 }

@@ -23,6 +23,12 @@ pub enum Kind {
     TwoAtoms,
     /// The search's answer where no two atoms fit.
     ProductLoop,
+    /// The residual search's answer, against the originals' loop.
+    ResidualSearch,
+    /// The same against the plain statement, where that is short.
+    ResidualTrials,
+    /// Whether something is found, and gives the target, against all atoms a, b, c and gates; where the index is whole.
+    ResidualNothing,
     Value,
     Cost,
     IsBetter,
@@ -49,6 +55,7 @@ pub enum Kind {
     RefusedIndex,
     RefusedCandidates,
     RefusedProduct,
+    RefusedResidual,
     RefusedFindRow,
     RefusedAtomRow,
     RefusedValue,
@@ -61,7 +68,7 @@ pub enum Kind {
 
 impl Kind {
     /// Every kind, in order.
-    pub const ALL: [Kind; 35] = [
+    pub const ALL: [Kind; 39] = [
         Kind::Bank,
         Kind::FindRow,
         Kind::AtomRow,
@@ -69,6 +76,9 @@ impl Kind {
         Kind::Candidates,
         Kind::TwoAtoms,
         Kind::ProductLoop,
+        Kind::ResidualSearch,
+        Kind::ResidualTrials,
+        Kind::ResidualNothing,
         Kind::Value,
         Kind::Cost,
         Kind::IsBetter,
@@ -89,6 +99,7 @@ impl Kind {
         Kind::RefusedIndex,
         Kind::RefusedCandidates,
         Kind::RefusedProduct,
+        Kind::RefusedResidual,
         Kind::RefusedFindRow,
         Kind::RefusedAtomRow,
         Kind::RefusedValue,

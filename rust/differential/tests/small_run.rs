@@ -1,9 +1,10 @@
 //! A small run: a few rounds, all kinds, no difference but those of docs/DIFFERENCES.md.
 
 use differential::report::Kind;
-use differential::run;
+use differential::{run, run_residuals};
 
 const COUNT: u64 = 600;
+const RESIDUALS: u64 = 4000;
 
 #[test]
 fn no_other_difference() {
@@ -13,6 +14,19 @@ fn no_other_difference() {
         assert!(report.of_kind(kind) > 0, "{kind:?}");
     }
     assert_eq!(report.others(), 0, "{report}");
+}
+
+/// A run of residual searches meets every answer: each gate with a bank slot and with a pair, nothing, rows that repeat.
+#[test]
+fn every_residual_answer() {
+    let report = run_residuals(1, RESIDUALS);
+    assert_eq!(report.others(), 0, "{report}");
+    let text = report.to_string();
+    let counts = text.lines().filter(|line| line.starts_with("residual"));
+    assert_eq!(counts.clone().count(), 10, "{report}");
+    for count in counts {
+        assert!(!count.ends_with(": 0"), "{count}");
+    }
 }
 
 #[test]

@@ -7,6 +7,8 @@ mod indexes;
 mod searches;
 mod words;
 
+pub use searches::residual;
+
 use oracle::inputs::Inputs;
 use simjaldek::Refusal;
 
@@ -24,6 +26,7 @@ pub fn compare(inputs: &mut Inputs, report: &mut Report) {
         indexes::build(inputs, report);
         searches::candidates(inputs, report);
         searches::product(inputs, report);
+        searches::residual(inputs, report);
         formulas::compare(inputs, report);
     }
     words::compare(inputs, report);

@@ -1,4 +1,4 @@
-//! Candidates and the product search.
+//! Candidates and the searches.
 
 use oracle::inputs::Inputs;
 use oracle::spec::bank::ATOMS_MAX;
@@ -6,11 +6,12 @@ use oracle::spec::index::PAIRS_MAX;
 use oracle::spec::lent as spec;
 use oracle::spec::product::order_list;
 use oracle::spec::refusals::{least, NONE, REFUSED_LENGTH, REFUSED_WIDTH};
-use simjaldek::lent::{self, Atoms, Pairs};
+use simjaldek::lent::{self, Atoms, PairRows, Pairs};
 
 use super::{claimed, cut, damages, length, number, padded, reach, row_words, widths};
 use crate::buffers::{garbage_u32, garbage_u64};
 use crate::report::{Kind, Report};
+use crate::residuals::ask;
 
 /// Pairs as they are lent.
 struct Lent {
@@ -123,11 +124,7 @@ pub fn candidates(inputs: &mut Inputs, report: &mut Report) {
 pub fn product(inputs: &mut Inputs, report: &mut Report) {
     let (good, width) = widths(inputs);
     let lent = Lent::new(inputs, good);
-    let any = inputs.below(5) as usize;
-    let atoms = inputs.one_of(&[any, any, any, any, any, ATOMS_MAX + 1]);
-    let mut rows = garbage_u64(inputs, 16 * atoms);
-    cut(inputs, &mut rows);
-    let count = claimed(inputs, atoms);
+    let (count, rows) = atoms(inputs);
     let target = row_words(inputs, good);
     let lent_atoms = Atoms { count, rows: &rows };
     let refused = number(lent::product_search(
@@ -143,13 +140,51 @@ pub fn product(inputs: &mut Inputs, report: &mut Report) {
         pairs: lent.handed(),
         target: padded(&target),
     };
-    let expected = if target.len() < 16 {
-        short_target(width)
-    } else {
-        handed.refusal()
-    };
+    let expected = with_target(&target, width, handed.refusal());
     let input = (width, count, rows.len(), lent.told(), target);
     report.refusal(Kind::RefusedProduct, &input, (refused, true), expected);
+}
+
+pub fn residual(inputs: &mut Inputs, report: &mut Report) {
+    let (good, width) = widths(inputs);
+    let lent = Lent::new(inputs, good);
+    let (count, rows) = atoms(inputs);
+    let target = row_words(inputs, good);
+    let lent_atoms = Atoms { count, rows: &rows };
+    let pair_rows = PairRows {
+        count: lent.count,
+        rows: &lent.rows,
+    };
+    let refused = number(ask(width, lent_atoms, pair_rows, &target));
+    let handed = spec::ResidualSearch {
+        width: width.into(),
+        count: count as u64,
+        atoms: rows.len() as u64,
+        pairs: lent.count as u64,
+        listed: lent.rows.len() as u64,
+        target: padded(&target),
+    };
+    let expected = with_target(&target, width, handed.refusal());
+    let input = (width, count, rows.len(), lent.told(), target);
+    report.refusal(Kind::RefusedResidual, &input, (refused, true), expected);
+}
+
+/// A few atoms, now and then more than there can be: how many are claimed, and their rows.
+fn atoms(inputs: &mut Inputs) -> (usize, Vec<u64>) {
+    let any = inputs.below(5) as usize;
+    let atoms = inputs.one_of(&[any, any, any, any, any, ATOMS_MAX + 1]);
+    let mut rows = garbage_u64(inputs, 16 * atoms);
+    cut(inputs, &mut rows);
+    (claimed(inputs, atoms), rows)
+}
+
+/// A search's refusal where the target is long enough.
+fn with_target(target: &[u64], width: u32, refusal: u64) -> u64 {
+    if target.len() < 16 {
+        short_target(width)
+    } else {
+        refusal
+    }
 }
 
 /// A target that is too short: 4, unless the width is refused.
