@@ -4,6 +4,9 @@ use std::fmt::Write;
 
 use crate::inputs::INPUT_SEED;
 
+/// The most numbers of a line of a search.
+pub const NUMBERS_MAX: usize = 500;
+
 #[derive(Default)]
 pub struct DataFile {
     text: String,

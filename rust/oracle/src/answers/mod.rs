@@ -2,10 +2,12 @@
 
 mod banks;
 mod data_file;
+mod faults;
 mod formulas;
 mod indexes;
 pub mod listings;
 mod probe;
+mod searched;
 mod searches;
 
 /// The names of the data files.

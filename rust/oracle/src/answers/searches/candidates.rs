@@ -2,8 +2,8 @@
 
 use crate::access;
 
-use super::{CANDIDATES, NUMBERS_MAX};
-use crate::answers::data_file::DataFile;
+use super::CANDIDATES;
+use crate::answers::data_file::{DataFile, NUMBERS_MAX};
 use crate::inputs::Inputs;
 use crate::made::banks::largest;
 use crate::spec::lent::{Candidates, Pairs};

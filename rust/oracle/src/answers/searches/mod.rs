@@ -7,23 +7,11 @@ mod products_refused;
 
 use crate::answers::data_file::DataFile;
 use crate::spec::lent::Pairs;
-use crate::spec::refusals::{least, NONE};
 
 const CANDIDATES: u64 = 15;
 const PRODUCTS: u64 = 16;
 const PRODUCTS_REFUSED: u64 = 17;
 const CANDIDATES_REFUSED: u64 = 18;
-
-/// The most numbers of a line.
-const NUMBERS_MAX: usize = 500;
-/// The longest lent array of a refusal.
-const ARRAY_MAX: u64 = 8000;
-
-const BAD_WIDTHS: [u64; 5] = [0, 65, 66, 128, u32::MAX as u64];
-/// Widths with the least word that is too large.
-const TOO_LARGE: [(u32, u64); 4] = [(1, 2), (8, 256), (32, 1 << 32), (63, 1 << 63)];
-/// Counts that no array has; some are small when cut to fewer bits, or sixteen times them is.
-const HUGE: [u64; 5] = [1 << 32, (1 << 32) + 3, 1 << 60, (1 << 60) + 3, u64::MAX];
 
 const HEAD: [&str; 26] = [
     "  15 W N WORDS.. ORDER.. P T ANSWER COUNT SLOTS..",
@@ -76,29 +64,4 @@ fn zero_pairs(count: u64, rows: u64, order: u64, swap: u64) -> Pairs {
         first_words: vec![0; rows as usize / 16],
         order,
     }
-}
-
-/// Something wrong, and what it alone is refused with.
-struct Fault<Handed> {
-    make: fn(&mut Handed),
-    refusal: u64,
-}
-
-/// What is good, made wrong by each two faults, each three, and all; with what it is refused with then.
-fn faulty<Handed: Clone>(good: &Handed, faults: &[Fault<Handed>]) -> Vec<(Handed, u64)> {
-    let mut all = Vec::new();
-    for count in [2, 3, faults.len() as u32] {
-        for members in (0u32..1 << faults.len()).filter(|set| set.count_ones() == count) {
-            let (mut handed, mut refusal) = (good.clone(), NONE);
-            for (_, fault) in (0..)
-                .zip(faults)
-                .filter(|(place, _)| members >> place & 1 == 1)
-            {
-                (fault.make)(&mut handed);
-                refusal = least(refusal, fault.refusal);
-            }
-            all.push((handed, refusal));
-        }
-    }
-    all
 }

@@ -3,17 +3,15 @@
 
 use crate::access::Row;
 
-use super::{NUMBERS_MAX, PRODUCTS};
+use super::PRODUCTS;
 use crate::answers::data_file::DataFile;
+use crate::answers::searched::{changed, p2, small_bank, Searched, LIMIT_MAX};
 use crate::differences::known::{self, Input};
 use crate::differences::Setting;
-use crate::inputs::{one_variable, repeated, Inputs};
+use crate::inputs::{repeated, Inputs};
 use crate::made::banks::{largest, BankInput};
-use crate::spec::index as spec;
 use crate::spec::product::{first_stage, fits, is_used, product, Answer};
 
-/// The largest limit in the file.
-const LIMIT_MAX: usize = 500;
 /// Banks with a small index, for each variable count.
 const SMALL_BANKS: usize = 4;
 /// Banks with a search at another width, for each variable count.
@@ -23,58 +21,27 @@ const ORDERED: usize = 6;
 /// How often a row is drawn anew for the answer that it is to have.
 const DRAWS: usize = 30;
 
-/// A bank with its index.
-struct Searched {
-    bank: BankInput,
-    limit: usize,
-    setting: Setting,
+/// A line for a row searched for.
+fn line(file: &mut DataFile, searched: &Searched, row: Row) {
+    let setting = &searched.setting;
+    ask_the_rust(setting, row);
+    let (answer, a, b) = match setting.try_everything(&row) {
+        Answer::Nothing => (0, 0, 0),
+        Answer::TwoAtoms(a, b) => (1, a, b),
+        Answer::AtomAndPair(a, pair) => (2, a, pair),
+    };
+    searched.line(file, PRODUCTS, &row, &[answer, a as u64, b as u64]);
 }
 
-impl Searched {
-    /// The Rust's bank and index must be the specification's.
-    fn new(bank: BankInput, width: u32, limit: usize) -> Self {
-        assert!(limit <= LIMIT_MAX);
-        let setting = Setting::new(bank.bank(), limit, width);
-        let expected = spec::index(&setting.rows, width, limit);
-        let index = &setting.index;
-        assert_eq!(
-            (&index.pairs, &index.rows, index.all > limit),
-            (&expected.pairs, &expected.rows, expected.cut)
-        );
-        Self {
-            bank,
-            limit,
-            setting,
-        }
-    }
-
-    fn line(&self, file: &mut DataFile, row: Row) {
-        let setting = &self.setting;
-        assert!(row.iter().all(|&word| word <= largest(setting.width)));
-        self.ask_the_rust(row);
-        let (answer, a, b) = match setting.try_everything(&row) {
-            Answer::Nothing => (0, 0, 0),
-            Answer::TwoAtoms(a, b) => (1, a, b),
-            Answer::AtomAndPair(a, pair) => (2, a, pair),
-        };
-        let bank = self.bank.numbers();
-        let asked = [setting.width.into(), self.limit as u64];
-        let answer = [answer, a as u64, b as u64];
-        assert!(1 + bank.len() + asked.len() + row.len() + answer.len() <= NUMBERS_MAX);
-        file.line(PRODUCTS, &[&bank, &asked, &row, &answer]);
-    }
-
-    /// Two atoms are found by both or by none. The product loop finds what the specification's second stage finds, but for
-    /// pairs whose first words reach 2^width.
-    fn ask_the_rust(&self, row: Row) {
-        let setting = &self.setting;
-        let first = first_stage(&row, &setting.rows, setting.width);
-        assert_eq!(setting.two_atoms(row).is_some(), first.is_some());
-        let second = setting.second_stage(&row);
-        if setting.product_loop(row) != second {
-            let (_, pair) = second.expect("the Rust finds nothing else");
-            assert!(setting.index.rows[pair][0] > largest(setting.width));
-        }
+/// Two atoms are found by both or by none. The product loop finds what the specification's second stage finds, but for pairs whose
+/// first words reach 2^width.
+fn ask_the_rust(setting: &Setting, row: Row) {
+    let first = first_stage(&row, &setting.rows, setting.width);
+    assert_eq!(setting.two_atoms(row).is_some(), first.is_some());
+    let second = setting.second_stage(&row);
+    if setting.product_loop(row) != second {
+        let (_, pair) = second.expect("the Rust finds nothing else");
+        assert!(setting.index.rows[pair][0] > largest(setting.width));
     }
 }
 
@@ -100,13 +67,7 @@ pub fn lines(file: &mut DataFile) {
 /// P2's bank with all 36 pairs or fewer: products of atoms and of atoms and pairs, and rows that miss in one word.
 fn sheet(file: &mut DataFile) {
     for limit in [LIMIT_MAX, 36, 35, 1, 0] {
-        let bank = BankInput {
-            num_vars: 1,
-            width: 2,
-            points: one_variable(&[0, 1, 2, 3]),
-            target: [0; 16],
-        };
-        let searched = Searched::new(bank, 2, limit);
+        let searched = Searched::new(p2(), 2, limit);
         let setting = &searched.setting;
         let pairs = setting.index.rows.len();
         assert_eq!((setting.rows.len(), pairs), (14, limit.min(36)));
@@ -118,16 +79,9 @@ fn sheet(file: &mut DataFile) {
             rows.extend([*last, row, changed(&row, 15, 1)]);
         }
         for row in rows {
-            searched.line(file, row);
+            line(file, &searched, row);
         }
     }
-}
-
-/// A row with one word changed.
-fn changed(row: &Row, place: usize, bits: u64) -> Row {
-    let mut row = *row;
-    row[place] ^= bits;
-    row
 }
 
 /// A line for an input that shows a difference.
@@ -136,7 +90,7 @@ fn difference(file: &mut DataFile, input: &Input) -> Setting {
     let setting = &searched.setting;
     assert_eq!(setting.index.all, setting.index.pairs.len());
     assert_eq!(setting.try_everything(&input.row()), input.answer);
-    searched.line(file, input.row());
+    line(file, &searched, input.row());
     searched.setting
 }
 
@@ -242,21 +196,8 @@ fn small(file: &mut DataFile, inputs: &mut Inputs) {
             for searched in [whole, cut] {
                 let style = styles.next().expect("they come round");
                 let row = sought(inputs, &searched.setting, style);
-                searched.line(file, row);
+                line(file, &searched, row);
             }
-        }
-    }
-}
-
-/// One whose index has at least a pair and is whole.
-fn small_bank(inputs: &mut Inputs, num_vars: u32) -> BankInput {
-    loop {
-        let width = 1 + inputs.below(8) as u32;
-        let bank = BankInput::of_any_style(inputs, num_vars, width);
-        let rows: Vec<Row> = bank.bank_of_spec().iter().map(|atom| atom.row).collect();
-        let index = spec::index(&rows, width, LIMIT_MAX);
-        if !index.cut && !index.pairs.is_empty() {
-            return bank;
         }
     }
 }
@@ -269,7 +210,7 @@ fn every_width(file: &mut DataFile, inputs: &mut Inputs) {
         let searched = Searched::new(bank, width, limit);
         let style = SOUGHT[width as usize % SOUGHT.len()];
         let row = sought(inputs, &searched.setting, style);
-        searched.line(file, row);
+        line(file, &searched, row);
     }
 }
 
@@ -285,7 +226,7 @@ fn other_widths(file: &mut DataFile, inputs: &mut Inputs) {
             let searched = Searched::new(bank, width, LIMIT_MAX);
             for style in [Sought::AtomAndPair, inputs.one_of(&SOUGHT)] {
                 let row = sought(inputs, &searched.setting, style);
-                searched.line(file, row);
+                line(file, &searched, row);
             }
         }
     }
@@ -300,7 +241,7 @@ fn pair_orders(file: &mut DataFile, inputs: &mut Inputs, used: bool) {
         let searched = Searched::new(bank, width, LIMIT_MAX);
         let row = atom_and_pair(inputs, &searched.setting);
         if hangs_on_order(&searched.setting, &row, used) {
-            searched.line(file, row);
+            line(file, &searched, row);
             found += 1;
         }
     }

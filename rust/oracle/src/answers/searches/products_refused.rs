@@ -1,8 +1,9 @@
 //! Lines of kind 17: what the specification's table refuses of the product search, and close neighbours that it does not.
 //! The Rust is not asked. Each case states its refusal by hand, and the table must say the same.
 
-use super::{faulty, zero_pairs, Fault, ARRAY_MAX, BAD_WIDTHS, HUGE, PRODUCTS_REFUSED, TOO_LARGE};
+use super::{zero_pairs, PRODUCTS_REFUSED};
 use crate::answers::data_file::DataFile;
+use crate::answers::faults::{faulty, Fault, ARRAY_MAX, BAD_WIDTHS, HUGE, TOO_LARGE};
 use crate::made::banks::largest;
 use crate::spec::index::PAIRS_MAX;
 use crate::spec::lent::ProductSearch;
