@@ -3,6 +3,7 @@
 
 use oracle::access::{self, Completion, Part, Row};
 use oracle::inputs::Inputs;
+use oracle::made::rows::{few_rows, few_words, late_one_of, near, near_one_of};
 use oracle::spec::residual as spec;
 use simjaldek::lent::{self, Atoms, PairRows};
 use simjaldek::{AtomSlot, Completion as Ours, PairSlot, Refusal, ATOMS_MAX, PAIRS_MAX};
@@ -64,7 +65,8 @@ fn made(inputs: &mut Inputs) -> Lent {
     let width = small_width(inputs);
     let beyond = inputs.one_of(&[0, 0, 1, 2]);
     let rows = few_rows(inputs, (width + beyond).min(64));
-    let mut draw = |count: u64| -> Vec<Row> { (0..count).map(|_| near(inputs, &rows)).collect() };
+    let mut draw =
+        |count: u64| -> Vec<Row> { (0..count).map(|_| near_one_of(inputs, &rows)).collect() };
     let [atoms, pairs] = [draw(MADE_ATOMS), draw(MADE_PAIRS)];
     let mut lent = Lent {
         atoms,
@@ -73,7 +75,7 @@ fn made(inputs: &mut Inputs) -> Lent {
         whole: false,
     };
     if inputs.below(32) == 0 {
-        let full = (0..ATOMS_MAX).map(|_| near(inputs, &rows));
+        let full = (0..ATOMS_MAX).map(|_| near_one_of(inputs, &rows));
         lent.atoms = full.collect();
     } else {
         lent.atoms.truncate(inputs.below(MADE_ATOMS + 1) as usize);
@@ -107,38 +109,6 @@ fn small_width(inputs: &mut Inputs) -> u32 {
         0 => any_width(inputs),
         _ => 1 + inputs.below(4) as u32,
     }
-}
-
-/// Two to nine rows: of one word, of two in turn, or any.
-fn few_rows(inputs: &mut Inputs, width: u32) -> Vec<Row> {
-    let count = 2 + inputs.below(8);
-    (0..count).map(|_| few_words(inputs, width)).collect()
-}
-
-fn few_words(inputs: &mut Inputs, width: u32) -> Row {
-    let words = [inputs.word_of_width(width), inputs.word_of_width(width)];
-    match inputs.below(8) {
-        0 => inputs.row(width),
-        1..=4 => [words[0]; 16],
-        _ => std::array::from_fn(|place| words[place % 2]),
-    }
-}
-
-/// One of the rows, now and then with a bit changed.
-fn near(inputs: &mut Inputs, rows: &[Row]) -> Row {
-    let row = inputs.one_of(rows);
-    match inputs.below(6) {
-        0 => changed(inputs, row, 1),
-        _ => row,
-    }
-}
-
-/// A row with a bit below the width changed: in the first word, in the last or in any.
-fn changed(inputs: &mut Inputs, mut row: Row, width: u32) -> Row {
-    let any = inputs.below(16) as usize;
-    let place = inputs.one_of(&[0, 15, any]);
-    row[place] ^= 1 << inputs.below(u64::from(width));
-    row
 }
 
 /// Searches over a lent bank and index.
@@ -205,7 +175,7 @@ impl Lent {
         }
         let target = self.sum(inputs, choice < 6);
         match inputs.below(6) {
-            0 => changed(inputs, target, self.width),
+            0 => near(inputs, target, self.width),
             _ => target,
         }
     }
@@ -218,7 +188,12 @@ impl Lent {
         } else {
             &self.pairs
         };
-        let mut drawn = || (late(inputs, &self.atoms), late(inputs, others));
+        let mut drawn = || {
+            (
+                late_one_of(inputs, &self.atoms),
+                late_one_of(inputs, others),
+            )
+        };
         let is_below =
             |&(a, b): &(Row, Row)| !reaches(&access::gate_apply(a, b, gate, 64), self.width);
         let first = drawn();
@@ -282,14 +257,6 @@ const ANSWERS: [(&str, Option<(usize, bool)>); 5] = [
     ("residual searches: Add, two atoms", Some((3, false))),
     ("residual searches: Add, atom and pair", Some((3, true))),
 ];
-
-/// One of the rows; every other time one of the last quarter.
-fn late(inputs: &mut Inputs, rows: &[Row]) -> Row {
-    match inputs.below(2) {
-        0 => inputs.one_of(&rows[rows.len() * 3 / 4..]),
-        _ => inputs.one_of(rows),
-    }
-}
 
 /// Whether a word of the row is not below 2^width.
 fn reaches(row: &Row, width: u32) -> bool {

@@ -7,12 +7,19 @@ mod formulas;
 mod indexes;
 pub mod listings;
 mod probe;
+mod residuals;
 mod searched;
 mod searches;
 
 /// The names of the data files.
-pub const NAMES: [&str; 6] = [
-    "probe", "formulas", "banks", "indexes", "searches", "listings",
+pub const NAMES: [&str; 7] = [
+    "probe",
+    "formulas",
+    "banks",
+    "indexes",
+    "searches",
+    "residuals",
+    "listings",
 ];
 
 /// The data file of that name, if there is one. The listings' texts hold bytes of any kind.
@@ -23,6 +30,7 @@ pub fn data_file(name: &str) -> Option<Vec<u8>> {
         "banks" => Some(banks::data_file().into_bytes()),
         "indexes" => Some(indexes::data_file().into_bytes()),
         "searches" => Some(searches::data_file().into_bytes()),
+        "residuals" => Some(residuals::data_file().into_bytes()),
         "listings" => Some(listings::data_file()),
         _ => None,
     }
