@@ -7,6 +7,7 @@ mod builds;
 mod clock;
 mod formulas;
 pub mod measure;
+mod residuals;
 mod searches;
 mod setting;
 pub mod stack;
@@ -18,7 +19,9 @@ pub use setting::Setting;
 
 /// The variable counts and the widths of the table.
 pub const VARIABLE_COUNTS: [u32; 5] = [1, 2, 3, 4, 6];
-pub const WIDTHS: [u32; 3] = [8, 32, 64];
+pub const WIDTHS: [u32; 4] = [1, 8, 32, 64];
+/// The width at which residual searches alone are timed.
+const RESIDUALS_ALONE: u32 = 1;
 
 /// What is timed.
 #[derive(Clone, Copy, Debug, PartialEq, Eq)]
@@ -31,6 +34,11 @@ pub enum Call {
     SearchAtomsLate,
     SearchPairEarly,
     SearchPairLate,
+    ResidualNothing,
+    ResidualAtoms,
+    ResidualPairEarly,
+    ResidualPairLate,
+    ResidualMaps,
     Evaluate,
     EvaluateCompiled,
     Cost,
@@ -38,7 +46,7 @@ pub enum Call {
 
 impl Call {
     /// All calls, in the tables' order.
-    pub const ALL: [Call; 11] = [
+    pub const ALL: [Call; 16] = [
         Call::Bank,
         Call::Index,
         Call::SearchNothing,
@@ -47,6 +55,11 @@ impl Call {
         Call::SearchAtomsLate,
         Call::SearchPairEarly,
         Call::SearchPairLate,
+        Call::ResidualNothing,
+        Call::ResidualAtoms,
+        Call::ResidualPairEarly,
+        Call::ResidualPairLate,
+        Call::ResidualMaps,
         Call::Evaluate,
         Call::EvaluateCompiled,
         Call::Cost,
@@ -63,6 +76,11 @@ impl Call {
             Call::SearchAtomsLate => "Product search, two atoms, late",
             Call::SearchPairEarly => "Product search, atom and pair, early",
             Call::SearchPairLate => "Product search, atom and pair, late",
+            Call::ResidualNothing => "Residual search, nothing",
+            Call::ResidualAtoms => "Residual search, two atoms",
+            Call::ResidualPairEarly => "Residual search, atom and pair, early",
+            Call::ResidualPairLate => "Residual search, atom and pair, late",
+            Call::ResidualMaps => "Residual search, the Rust's maps made before",
             Call::Evaluate => "Evaluate",
             Call::EvaluateCompiled => "Evaluate, the Rust's formula compiled before",
             Call::Cost => "Cost",
@@ -73,7 +91,7 @@ impl Call {
     pub fn bar(self) -> Option<f64> {
         match self {
             Call::Bank | Call::Index => Some(0.5),
-            Call::EvaluateCompiled => None,
+            Call::EvaluateCompiled | Call::ResidualMaps => None,
             _ => Some(1.0),
         }
     }
@@ -103,15 +121,21 @@ pub fn time_setting(plan: &Plan, setting: &mut Setting) -> Vec<Line> {
             times,
         });
     };
-    builds::time(plan, setting, &mut take);
-    searches::time(plan, setting, &mut take);
-    formulas::time(plan, num_vars, width, &mut take);
+    if width != RESIDUALS_ALONE {
+        builds::time(plan, setting, &mut take);
+        searches::time(plan, setting, &mut take);
+        formulas::time(plan, num_vars, width, &mut take);
+    }
+    residuals::time(plan, setting, &mut take);
     lines
 }
 
 /// Checks that both sides of every call give the same answers.
 pub fn check_setting(setting: &Setting) {
     builds::check(setting);
-    searches::check(setting);
-    formulas::check(setting.num_vars, setting.width);
+    if setting.width != RESIDUALS_ALONE {
+        searches::check(setting);
+        formulas::check(setting.num_vars, setting.width);
+    }
+    residuals::check(setting);
 }

@@ -83,13 +83,28 @@ pub fn apart<T>(mut call: impl FnMut() -> T) -> impl FnMut(u32) -> Duration {
     }
 }
 
-/// Both sides in turn, batch by batch, each side first every other time.
+/// Both sides in turn, batch by batch, each side first every other time; as many calls of both as make the faster side take the time
+/// asked for.
 pub fn alternate(plan: &Plan, ours: Side<'_>, rust: Side<'_>) -> Times {
-    let calls = calls_of_batch(plan.batch_time, ours, rust);
+    let calls = calls_taking(plan.batch_time, &mut |calls| ours(calls).min(rust(calls)));
+    batches(plan, [calls; 2], ours, rust)
+}
+
+/// The same where one side is far faster: as many calls of each side as make it take the time asked for.
+pub fn alternate_uneven(plan: &Plan, ours: Side<'_>, rust: Side<'_>) -> Times {
+    let calls = [
+        calls_taking(plan.batch_time, ours),
+        calls_taking(plan.batch_time, rust),
+    ];
+    batches(plan, calls, ours, rust)
+}
+
+fn batches(plan: &Plan, calls: [u32; 2], ours: Side<'_>, rust: Side<'_>) -> Times {
     let mut samples = [Vec::new(), Vec::new()];
     for batch in 0..plan.batches {
         for turn in 0..2 {
             let side = (batch + turn) % 2;
+            let calls = calls[side];
             let took = if side == 0 { ours(calls) } else { rust(calls) };
             samples[side].push(took.as_secs_f64() / f64::from(calls));
         }
@@ -98,10 +113,10 @@ pub fn alternate(plan: &Plan, ours: Side<'_>, rust: Side<'_>) -> Times {
     Times { ours, rust }
 }
 
-/// So many calls that the faster side takes the time asked for.
-fn calls_of_batch(batch_time: Duration, ours: Side<'_>, rust: Side<'_>) -> u32 {
+/// So many calls that a side takes the time asked for.
+fn calls_taking(batch_time: Duration, side: Side<'_>) -> u32 {
     let mut calls = 1;
-    while ours(calls).min(rust(calls)) < batch_time {
+    while side(calls) < batch_time {
         calls *= 2;
     }
     calls
