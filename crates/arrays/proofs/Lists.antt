@@ -245,13 +245,6 @@ first-map test f g same (x ∷ l) = elim (bool-cases (f x)) [
   | inr n ↦ first-no test (g x) (map g l) (same x ∙ n) ∙ first-map test f g same l ∙ ap (Option·map g) (sym (first-no f x l n))
 ]
 
--- one slot more
-pub up-more : (test : ℕ → Bool) (n : ℕ) → firstThat test (countUp 0 (n + 1)) ≡ orElse (firstThat test (countUp 0 n)) (firstThat test (n ∷ []))
-unfolding countUp
-up-more test n =
-    let here : 0 + n ≡ n = omega arith in
-    ap (firstThat test) (count-add 0 n 1 ∙ ap (λ (i : ℕ). countUp 0 n ++ countUp i 1) here) ∙ first-append test (countUp 0 n) (n ∷ [])
-
 -- ---- the first answer along a list
 -- part after part
 pub first-flat : {A B : Type 0} (test : B → Bool) (f : A → List B) (l : List A) → firstThat test (flatMap f l) ≡ firstOf (λ (x : A). firstThat test (f x)) l
@@ -259,12 +252,6 @@ unfolding firstThat firstOf flatMap
 first-flat test f [] = refl
 first-flat {A} {B} test f (x ∷ l) =
     first-append test (f x) (flatMap f l) ∙ ap (λ (o : Option B). orElse (firstThat test (f x)) o) (first-flat test f l)
-
--- two that answer alike
-pub first-alike : {A B : Type 0} (f g : A → Option B) (l : List A) → ((x : A) → In x l → f x ≡ g x) → firstOf f l ≡ firstOf g l
-unfolding firstOf
-first-alike f g [] h = refl
-first-alike {A} {B} f g (x ∷ l) h = ap₂ (λ (o p : Option B). orElse o p) (h x (inl refl)) (first-alike f g l (λ y i. h y (inr i)))
 
 -- counting up to n
 module _ {B : Type 0} (f : ℕ → Option B) (n : ℕ) where

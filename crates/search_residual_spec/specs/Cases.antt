@@ -16,7 +16,7 @@ abbrev pub Finds : ℕ → ℕ → List ℕ → ℕ → List ℕ → ℕ → Opt
 Finds w count atoms n pairs target found = tryResiduals w count (rows atoms) n (rows pairs) (replicate 16 target) ≡ found
 
 pub record Cases : Type 0 where
-  -- the whole of it over Xor, then over Add: 2 + 0 would come under Add, and before it 2 xor 0 of atom 1
+  -- the whole of it over Xor, then over Add: under Add atom 0 would be completed by itself, and under Xor only atom 1 is, by the pair
   pub xor-first : Finds 2 2 (1 ∷ (2 ∷ [])) 1 (0 ∷ []) 2 (some (Completion.ofPair Xor 1 0))
   -- for each atom first the bank, then the index: atom 0's pair before atom 1's atom
   pub atom-first : Finds 2 3 (0 ∷ (3 ∷ (2 ∷ []))) 1 (1 ∷ []) 1 (some (Completion.ofPair Xor 0 0))
