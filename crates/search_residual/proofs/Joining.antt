@@ -2,11 +2,11 @@
 use mathlib.Core.Path.{_≡_, refl, sym, ap, ap₂, _∙_}
 use mathlib.Core.Bool.{Bool, false}
 use mathlib.Core.Logic.{_⊎_, inl, inr}
-use mathlib.Core.List.{List, [], _∷_, map, flatMap, _++_}
+use mathlib.Core.List.{List, map}
 use mathlib.Core.Option.{Option, none, some, Option·map, orElse}
-use Prim.Native.Nat.{ℕ, zero, suc, _+_, _-_, _*_, _≤_, _<_}
+use Prim.Native.Nat.{ℕ, suc, _-_, _*_, _≤_, _<_}
 use native.Mathlib.Omega.{arith}
-use Rattle.arrays.specs.Lists.{countUp, In, firstThat, firstOf}
+use Rattle.arrays.specs.Lists.{countUp, firstThat, firstOf}
 use Rattle.arrays.specs.Parts.{partAt}
 use Rattle.arrays.proofs.Lists.{count-in, first-none, up-from, up-hit, first-append, first-map, first-flat, of-from, of-hit, of-end}
 use Rattle.limits.proofs.Refusals.{le-or-lt}
@@ -18,7 +18,7 @@ use Rattle.search_residual_trial.specs.Steps.{wanted, same}
 use Rattle.search_residual_trial.proofs.Numbering.{wanted-xor, wanted-add}
 use Rattle.search_residual_map.specs.declared.First.{First}
 use Rattle.search_residual_map.specs.Map.{LeastSlot, Best}
-use Rattle.search_residual.specs.Notes.{told, toldUnder, toldFirst}
+use Rattle.search_residual.specs.Told.{told, toldUnder, toldFirst}
 use Rattle.search_residual.proofs.Telling.{told-bank, told-index, told-none}
 
 -- ---- the first slot that passes, and the first atom that is answered

@@ -14,7 +14,7 @@ use Rattle.row_lent.specs.Range.{reaches}
 use Rattle.row_lent.proofs.Reaching.{not-reached}
 use Rattle.search_residual_trial.specs.Trying.{Completion, tryResiduals}
 use Rattle.search_residual.specs.Answer.{residualRefusal, completion}
-use Rattle.search_residual.specs.Notes.{Lent}
+use Rattle.search_residual.specs.Told.{Lent}
 
 module _ (w count : ℕ) (atoms : List ℕ) (n : ℕ) (listed target : List ℕ) where
   pub none-refused : residualRefusal w count atoms n listed target ≡ 0 → length target ≡ 16 → Lent w count atoms n listed target

@@ -1,15 +1,15 @@
 -- Laws of what the two passes tell of one residual row, and of the atoms in order. Assumes nothing.
-use mathlib.Core.Path.{_≡_, sym, ap, _∙_}
+use mathlib.Core.Path.{_≡_, ap, _∙_}
 use mathlib.Core.Bool.{Bool, cond}
 use mathlib.Core.Option.{Option, none, some, orElse}
-use Prim.Native.Nat.{ℕ, _-_, _*_, _<_}
+use Prim.Native.Nat.{ℕ, _-_, _*_}
 use borrow.Author.Tests.{eq-eqb, ne-eqb}
 use lib.Dec.{eqb}
 use Rattle.row_gates.specs.declared.Gate.{Gate}
 use Rattle.row_gates.specs.declared.Gate.the-variants.{Xor, Add}
 use Rattle.search_residual_trial.specs.Trying.{Completion}
 use Rattle.search_residual_map.specs.declared.First.{First}
-use Rattle.search_residual.specs.Notes.{told, toldUnder, toldFirst}
+use Rattle.search_residual.specs.Told.{told, toldUnder, toldFirst}
 
 module _ (g : Gate) (a entry : ℕ) (bank index : First) where
   pub told-bank : entry ≡ bank .at → told g a entry bank index ≡ some (Completion.ofAtoms g a (bank .slot))

@@ -11,7 +11,7 @@ ghost use Rattle.row_gates.specs.declared.Gate.{Gate};
 ghost use Rattle.search_residual_trial.specs.Trying.{tryResiduals};
 ghost use Rattle.search_residual_trial.specs.Steps.{foundSays};
 ghost use Rattle.search_residual.specs.Answer.{residualRefusal};
-ghost use Rattle.search_residual.specs.Notes.{Lent, partSays, lookupSays, told, toldUnder, toldFirst};
+ghost use Rattle.search_residual.specs.Told.{Lent, partSays, lookupSays, told, toldUnder, toldFirst};
 
 // The heads of the map of residual rows, and a link for each of at most 958 rows.
 const AREA: usize = 5054;

@@ -2,11 +2,11 @@
 use mathlib.Core.Path.{_≡_}
 use mathlib.Core.Bool.{false}
 use mathlib.Core.List.{List}
-use Prim.Native.Nat.{ℕ, suc, _+_, _*_, _≤_, _<_}
+use Prim.Native.Nat.{ℕ, _+_, _*_, _≤_, _<_}
 use native.Mathlib.Omega.{arith}
 use borrow.Author.Count.{below-more}
 use Rattle.search_residual_trial.specs.Steps.{same}
-use Rattle.search_residual_map.specs.Map.{Read, LeastSlot, Best}
+use Rattle.search_residual_map.specs.Map.{Read, Best}
 
 module _ (w count : ℕ) (atoms target rows : List ℕ) (beaten : ℕ) where
   pub best-start : beaten ≤ 2 * count → Best w count atoms target rows 0 beaten beaten 0

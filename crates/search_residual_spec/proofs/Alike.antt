@@ -5,12 +5,11 @@ use mathlib.Core.List.{List}
 use Prim.Native.Nat.{ℕ, _^_}
 use native.Mathlib.Omega.{arith}
 use borrow.Author.Tests.{le-ltb}
-use lib.Dec.{ltb}
 use lib.ListN.{length, take}
 use lib.Seq.{take-all}
 use Rattle.limits.specs.Refusal.{refuse, badWidth}
 use Rattle.limits.specs.Limits.{tooFewRows, tooManyAtoms, tooManyPairs}
-use Rattle.index_order.specs.Order.{orderOf, isOrder}
+use Rattle.index_order.specs.Order.{orderOf}
 use Rattle.index_order.proofs.OrderLaws.{order-length, order-exactly}
 use Rattle.row_lent.specs.Range.{reaches}
 use Rattle.search_filter.specs.Refusals.{shortPairs, wrongOrder}

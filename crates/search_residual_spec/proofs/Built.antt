@@ -1,21 +1,20 @@
 -- The rows of a built bank have words below 2^w: they are formulas' values. Assumes nothing.
 use mathlib.Core.Path.{_≡_, refl, sym, ap, _∙_}
 use mathlib.Core.List.{List, [], _∷_}
-use Prim.Native.Nat.{ℕ, zero, suc, _^_, _≤_, _<_}
+use Prim.Native.Nat.{ℕ, zero, suc, _<_}
 use native.Mathlib.Omega.{arith}
 use lib.ListN.{length, getD}
 use lib.Pow.{pow-mono}
 use Rattle.arrays.specs.Parts.{partAt}
-use Rattle.limits.specs.Refusal.{refuse, badCount}
+use Rattle.limits.specs.Refusal.{badCount}
 use Rattle.limits.proofs.Refusals.{within, passed, unless-not}
-use Rattle.bank_spec.specs.Push.{Atom, noAtom}
+use Rattle.bank_spec.specs.Push.{noAtom}
 use Rattle.bank_spec.specs.Bank.{bankOf}
 use Rattle.bank_spec.specs.Encoding.{Arrays, padTo, rowPart, written}
 use Rattle.bank_spec.proofs.AtomRows.{row-lt}
 use Rattle.bank_spec.proofs.Banks.{bank-is-sound}
 use Rattle.bank_spec.proofs.Encodings.{row-wide, spread-part}
 use Rattle.bank.specs.Build.{bankRefusal, sizesOf}
-use Rattle.search_product.specs.Demand.{BuiltBank}
 use Rattle.search_product.proofs.OwnPairs.{answered, zero-of}
 use Rattle.search_residual_spec.specs.Sums.{BuiltRowsBelow}
 

@@ -4,7 +4,7 @@ use mathlib.Core.Bool.{true}
 use mathlib.Core.Logic.{_⊎_, inl, inr}
 use mathlib.Core.List.{List}
 use mathlib.Core.Option.{some}
-use Prim.Native.Nat.{ℕ, _*_, _^_, _≤_, _<_}
+use Prim.Native.Nat.{ℕ, _^_, _<_}
 use native.Mathlib.Omega.{arith}
 use lib.ListN.{length, getD}
 use Rattle.arrays.specs.Parts.{partAt}
@@ -18,10 +18,10 @@ use Rattle.search_product.specs.Demand.{OwnIndex, Uncut}
 use Rattle.search_product.proofs.OwnPairs.{Has, Fit, answered, zero-of, atom-long, gate-row-long, pair-gated, none-lost}
 use Rattle.search_residual_trial.specs.Trying.{Completion, completing, hits, tryResiduals}
 use Rattle.search_residual.specs.Answer.{residualRefusal}
-use Rattle.search_residual.specs.Notes.{Lent}
+use Rattle.search_residual.specs.Told.{Lent}
 use Rattle.search_residual.proofs.Passing.{none-refused}
 use Rattle.search_residual_spec.specs.Sums.{Outer, Gives, RowsBelow, NoResidual, Completes, ShownCompletes, NothingCompletes, SumsAndXors}
-use Rattle.search_residual_spec.proofs.Trials.{hit-gives, gives-hit, Tried, NoneHits, nothing-hits, hits-nothing, Found, found-hits}
+use Rattle.search_residual_spec.proofs.Trials.{hit-gives, gives-hit, Tried, NoneHits, nothing-hits, hits-nothing, found-hits}
 
 -- ---- what is shown
 module _ {w count : ℕ} {atoms : List ℕ} {n : ℕ} {listed target : List ℕ} (lent : Lent w count atoms n listed target) where

@@ -1,20 +1,18 @@
 -- Laws of trying everything: which trials there are, when none hits, and what a hit means. Assumes nothing.
-use mathlib.Core.Path.{_≡_, refl, sym, ap, _∙_, subst}
+use mathlib.Core.Path.{_≡_, sym, ap, _∙_}
 use mathlib.Core.Bool.{true, false}
-use mathlib.Core.Logic.{_⊎_, inl, inr}
-use mathlib.Core.List.{List, [], _∷_, map, flatMap, _++_}
+use mathlib.Core.Logic.{inl, inr}
+use mathlib.Core.List.{List, map, flatMap}
 use mathlib.Core.Option.{none, some}
-use Prim.Native.Nat.{ℕ, _+_, _*_, _^_, _≤_, _<_}
+use Prim.Native.Nat.{ℕ, _^_, _<_}
 use native.Mathlib.Omega.{arith}
 use lib.ListN.{length, getD}
 use lib.Seq.{ext-getD}
 use Rattle.arrays.specs.Lists.{countUp, In}
 use Rattle.arrays.specs.Parts.{partAt}
 use Rattle.arrays.proofs.Lists.{in-left, in-right, in-split, in-map, map-in, in-flat, flat-in, in-count, count-in, first-none, first-passes, none-passes}
-use Rattle.arrays.proofs.Parts.{length-part}
 use Rattle.row_gates.specs.Gates.{gateOf, residualOf, invertible, sameRow}
 use Rattle.row_gates.specs.declared.Gate.{Gate}
-use Rattle.row_gates.specs.declared.Gate.the-variants.{Xor, Add}
 use Rattle.row_gates.proofs.GateLaws.{residual-completes, residual-only}
 use Rattle.row_gates.proofs.Rows.{length-residualRow, getD-residualRow, same-row-eq, same-row-of}
 use Rattle.search_residual_trial.specs.Trying.{outerGates, Completion, completing, hits, lookups, underGate, tryResiduals}

@@ -2,7 +2,6 @@
 use mathlib.Core.Path.{sym, ap, _∙_}
 use Rattle.search_residual_trial.specs.Steps.{foundSays}
 use Rattle.search_residual.proofs.Telling.{told-xor, told-add}
-use native.Mathlib.Omega.{arith}
 use borrow.Author.Needs.{needs}
 use Rattle.search_residual.proofs.inner.first_told.Statement.{statement}
 use Rattle.search_residual.proofs.inner.first_told.Tie as tie

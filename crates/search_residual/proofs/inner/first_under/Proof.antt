@@ -5,8 +5,7 @@ use Prim.Native.Nat.{ℕ, _-_, _≤_}
 use Rattle.arrays.specs.Lists.{countUp, firstOf}
 use Rattle.arrays.proofs.Lists.{of-start, of-hit, of-miss, of-end}
 use Rattle.search_residual_trial.specs.Trying.{Completion}
-use Rattle.search_residual.specs.declared.inner.Lookup.{Lookup}
-use Rattle.search_residual.specs.Notes.{lookupSays, told, toldUnder}
+use Rattle.search_residual.specs.Told.{lookupSays, told, toldUnder}
 use native.Mathlib.Omega.{arith}
 use borrow.Author.Needs.{needs}
 use Rattle.search_residual.proofs.inner.first_under.Statement.{statement}

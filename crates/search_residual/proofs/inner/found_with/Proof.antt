@@ -2,8 +2,7 @@
 use mathlib.Core.Path.{sym, ap}
 use mathlib.Core.Option.{some}
 use Rattle.search_residual.specs.declared.inner.Part.{Part}
-use Rattle.search_residual.specs.Notes.{partSays}
-use native.Mathlib.Omega.{arith}
+use Rattle.search_residual.specs.Told.{partSays}
 use borrow.Author.Needs.{needs}
 use Rattle.search_residual.proofs.inner.found_with.Statement.{statement}
 use Rattle.search_residual.proofs.inner.found_with.Tie as tie

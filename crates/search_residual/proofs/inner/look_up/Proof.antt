@@ -1,8 +1,6 @@
 -- `search_residual::inner::look_up` meets its contract: the bank is asked before the index. Assumes nothing.
 use mathlib.Core.Path.{sym}
 use Rattle.search_residual.proofs.Telling.{told-bank, told-index, told-none}
-use native.Mathlib.Omega.{arith}
-use borrow.Author.Needs.{needs}
 use Rattle.search_residual.proofs.inner.look_up.Statement.{statement}
 use Rattle.search_residual.proofs.inner.look_up.Tie as tie
 

@@ -1,5 +1,5 @@
 -- `search_residual_map::inner::atom_at` meets its contract: atoms go against the numbers, under each gate. Assumes nothing.
-use mathlib.Core.Path.{_≡_, sym}
+use mathlib.Core.Path.{sym}
 use Rattle.search_residual_trial.proofs.Numbering.{atom-add, atom-xor}
 use native.Mathlib.Omega.{arith}
 use borrow.Author.Needs.{needs}

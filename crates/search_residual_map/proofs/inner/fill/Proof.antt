@@ -1,7 +1,6 @@
 -- `search_residual_map::inner::fill` meets its contract: the map holds the residual rows passed. Assumes nothing.
-use mathlib.Core.Path.{_≡_, refl, subst}
+use mathlib.Core.Path.{_≡_, subst}
 use Prim.Native.Nat.{ℕ, _-_, _*_, _≤_}
-use lib.ListN.{length}
 use Rattle.search_residual_trial.specs.Steps.{wanted}
 use Rattle.search_residual_map.specs.Map.{homeOf, Wanted}
 use native.Mathlib.Omega.{arith}

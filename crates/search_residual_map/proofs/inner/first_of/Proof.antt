@@ -1,6 +1,6 @@
 -- `search_residual_map::inner::first_of` meets its contract: the entry and the slot are the first of the rows passed. Assumes nothing.
-use mathlib.Core.Path.{_≡_, ap, _∙_, sym, subst}
-use Prim.Native.Nat.{ℕ, _-_, _*_, _≤_}
+use mathlib.Core.Path.{_≡_, ap, subst}
+use Prim.Native.Nat.{ℕ, _-_, _≤_}
 use lib.ListN.{getD}
 use Rattle.search_residual_map.specs.Map.{Best}
 use Rattle.search_residual_map.proofs.Passing.{best-start, best-better, best-kept, best-first}

@@ -1,10 +1,9 @@
 -- `search_residual_map::inner::home_of` meets its contract: the highest twelve of 64 bits are a quotient. Assumes nothing.
-use mathlib.Core.Path.{_≡_, sym, ap, _∙_, subst}
+use mathlib.Core.Path.{_≡_, sym, ap, subst}
 use Prim.Native.Nat.{ℕ, _/_, _^_, _<_}
 use Rattle.arrays.specs.Parts.{partAt}
 use Rattle.search_residual_map.specs.Map.{homeOf}
 use Rattle.search_residual_map.proofs.Walking.{home-small}
-use native.Mathlib.Omega.{arith}
 use borrow.Author.Needs.{needs}
 use Rattle.search_residual_map.proofs.inner.home_of.Statement.{statement}
 use Rattle.search_residual_map.proofs.inner.home_of.Tie as tie

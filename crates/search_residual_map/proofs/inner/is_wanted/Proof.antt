@@ -1,6 +1,5 @@
 -- `search_residual_map::inner::is_wanted` meets its contract: gate and atom are those of the number. Assumes nothing.
-use mathlib.Core.Path.{_≡_, ap₂, _∙_}
-use mathlib.Core.Bool.{Bool}
+use mathlib.Core.Path.{ap₂, _∙_}
 use Prim.Native.Nat.{ℕ}
 use Rattle.arrays.specs.Parts.{partAt}
 use Rattle.row_gates.specs.Gates.{sameRow}

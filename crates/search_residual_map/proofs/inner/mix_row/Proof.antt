@@ -1,7 +1,7 @@
 -- `search_residual_map::inner::mix_row` meets its contract: the sum so far and the words to come give the whole. Assumes nothing.
 use mathlib.Core.Path.{_≡_, refl, sym, ap, ap₂, _∙_}
 use Prim.Native.Nat.{ℕ, _+_, _-_, _*_, _%_, _^_, _≤_}
-use lib.ListN.{length, getD, drop}
+use lib.ListN.{drop}
 use Rattle.arrays.specs.Parts.{partAt}
 use Rattle.arrays.proofs.Parts.{length-part, getD-part}
 use Rattle.search_residual_map.specs.Map.{mixedFrom, mixed}

@@ -1,8 +1,6 @@
 -- `search_residual_map::inner::outer_at` meets its contract: the numbers below the count are those under Add. Assumes nothing.
 use mathlib.Core.Path.{sym}
 use Rattle.search_residual_trial.proofs.Numbering.{outer-add, outer-xor}
-use native.Mathlib.Omega.{arith}
-use borrow.Author.Needs.{needs}
 use Rattle.search_residual_map.proofs.inner.outer_at.Statement.{statement}
 use Rattle.search_residual_map.proofs.inner.outer_at.Tie as tie
 

@@ -1,6 +1,6 @@
 -- `search_residual_map::inner::walk` meets its contract: the row is none of the residual rows passed, and links fall, so that the walk ends. Assumes nothing.
-use mathlib.Core.Path.{_≡_, sym, _∙_}
-use Prim.Native.Nat.{ℕ, _-_, _*_}
+use mathlib.Core.Path.{sym, _∙_}
+use Prim.Native.Nat.{_-_}
 use Rattle.search_residual_map.proofs.Walking.{Along, along-start, along-on, link-low, read-hit, read-none}
 use native.Mathlib.Omega.{arith}
 use borrow.Author.Needs.{needs}

@@ -1,7 +1,7 @@
 -- `search_residual_map::inner::wanted_home` meets its contract: gate and atom are those of the number. Assumes nothing.
-use mathlib.Core.Path.{_≡_, sym, ap, ap₂, _∙_, subst}
+use mathlib.Core.Path.{_≡_, ap, ap₂, _∙_}
 use mathlib.Core.List.{List}
-use Prim.Native.Nat.{ℕ, _<_}
+use Prim.Native.Nat.{ℕ}
 use lib.ListN.{length}
 use Rattle.arrays.proofs.Parts.{part-whole}
 use Rattle.row_gates.specs.Gates.{residualRow}

@@ -1,5 +1,5 @@
 -- `search_residual_trial::inner::completes` meets its contract: the words passed are those of the row that completes the atom. Assumes nothing.
-use mathlib.Core.Path.{_≡_, sym, ap, _∙_}
+use mathlib.Core.Path.{_≡_, sym, _∙_}
 use Prim.Native.Nat.{ℕ, _+_, _-_, _*_, _≤_, _<_}
 use borrow.Author.Count.{below-more}
 use lib.ListN.{getD}

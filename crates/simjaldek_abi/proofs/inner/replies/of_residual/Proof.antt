@@ -5,7 +5,6 @@ use Rattle.search_residual.specs.declared.ResidualAnswer.{ResidualAnswer}
 use Rattle.search_residual.specs.Answer.{residualSays}
 use Rattle.simjaldek_abi.specs.declared.ResidualReply.{ResidualReply}
 use Rattle.simjaldek_abi.specs.Reply.{completed, residualReply}
-use native.Mathlib.Omega.{arith}
 use borrow.Author.Needs.{needs}
 use Rattle.simjaldek_abi.proofs.inner.replies.of_residual.Statement.{statement}
 use Rattle.simjaldek_abi.proofs.inner.replies.of_residual.Tie as tie
