@@ -1,6 +1,6 @@
 -- The two cases of a Bool, and laws of lists: membership, counting up, places, what passes a test. Assumes nothing.
 use mathlib.Core.Path.{_≡_, refl, sym, ap, ap₂, _∙_, subst}
-use mathlib.Core.Bool.{Bool, true, false, cond}
+use mathlib.Core.Bool.{Bool, true, false, cond, _||_}
 use mathlib.Core.Logic.{_⊎_, inl, inr}
 use mathlib.Core.List.{List, [], _∷_, _++_, map, flatMap, append-assoc}
 use mathlib.Core.Option.{Option, none, some, Option·map, orElse, Option·none-ne-some, Option·some-injective}
@@ -94,6 +94,13 @@ unfolding countUp
 count-in i zero x h = absurd h
 count-in i (suc n) x (inl e) = (omega arith, omega arith)
 count-in i (suc n) x (inr h) = let p = count-in (suc i) n x h in (omega arith, omega arith)
+
+-- counting up from 0
+pub up-in : (n x : ℕ) → x < n → In x (countUp 0 n)
+up-in n x h = in-count 0 n x (omega arith) (omega arith)
+
+pub in-up : (n x : ℕ) → In x (countUp 0 n) → x < n
+in-up n x h = omega (arith, count-in 0 n x h .1)
 
 -- the first m, and the rest
 pub count-add : (i m n : ℕ) → countUp i (m + n) ≡ countUp i m ++ countUp (i + m) n
@@ -222,6 +229,10 @@ module _ (test : ℕ → Bool) (n : ℕ) where
       ∙ up-miss a (omega arith) (none-before a (omega arith))
       ∙ up-from a (omega arith) (λ b l. none-before b (omega arith))
 
+  -- none passes
+  pub up-nothing : ((s : ℕ) → s < n → test s ≡ false) → firstThat test (countUp 0 n) ≡ none
+  up-nothing h = first-none test (countUp 0 n) (λ s i. h s (in-up n s i))
+
   pub up-none : none ≡ firstThat test (countUp 0 n) → (b : ℕ) → b < n → test b ≡ false
   up-none e b h = none-passes test (countUp 0 n) (sym e) b (in-count 0 n b (omega arith) (omega arith))
 
@@ -277,3 +288,21 @@ module _ {B : Type 0} (f : ℕ → Option B) (n : ℕ) where
       ap (λ (i : ℕ). firstOf f (countUp i (n - i))) (sym (add-one a))
       ∙ of-miss a (omega arith) (none-before a (omega arith))
       ∙ of-from a (omega arith) (λ b l. none-before b (omega arith))
+
+  -- it answers nothing at all
+  pub of-nothing : ((a : ℕ) → a < n → f a ≡ none) → firstOf f (countUp 0 n) ≡ none
+  of-nothing h = sym (of-from n (omega arith) h) ∙ of-end n (omega arith)
+
+  -- the first answer is that at m
+  pub of-something : (m : ℕ) (x : B) → m < n → ((a : ℕ) → a < m → f a ≡ none) → f m ≡ some x → firstOf f (countUp 0 n) ≡ some x
+  of-something m x l h e = sym (of-from m (omega arith) h) ∙ of-hit m l x e
+
+-- ---- nothing on the right
+pub or-none : {B : Type 0} (o : Option B) → orElse o none ≡ o
+unfolding orElse
+or-none none = refl
+or-none (some x) = refl
+
+pub or-false : (b : Bool) → b || false ≡ b
+or-false true = refl
+or-false false = refl

@@ -47,6 +47,15 @@ getD-pad zero d (x ∷ l) k e h m = absurd (omega arith)
 getD-pad (suc s) d (x ∷ l) zero e h m = refl
 getD-pad (suc s) d (x ∷ l) (suc k) e h m = getD-pad s d l k e (omega arith) (omega arith)
 
+-- the word at any place of a row padded with zeros
+pub getD-padded : (s : ℕ) (l : List ℕ) (j : ℕ) → j < s → getD (padTo s 0 l) j 0 ≡ getD l j 0
+unfolding padTo
+getD-padded zero l j h = absurd (omega arith)
+getD-padded (suc s) [] zero h = refl
+getD-padded (suc s) [] (suc j) h = getD-padded s [] j (omega arith)
+getD-padded (suc s) (x ∷ l) zero h = refl
+getD-padded (suc s) (x ∷ l) (suc j) h = getD-padded s l j (omega arith)
+
 -- places past the list hold what it is padded with
 pub getD-pad-past : (s d : ℕ) (l : List ℕ) (k e : ℕ) → k < s → length l ≤ k → getD (padTo s d l) k e ≡ d
 unfolding padTo

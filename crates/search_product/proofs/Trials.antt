@@ -10,7 +10,7 @@ use lib.ListN.{length, getD, length-map}
 use lib.Seq.{ext-getD}
 use Rattle.arrays.specs.Lists.{countUp, In}
 use Rattle.arrays.specs.Parts.{partAt}
-use Rattle.arrays.proofs.Lists.{in-left, in-right, in-split, in-map, map-in, in-flat, flat-in, in-count, count-in, getD-map, in-at, in-place, first-none, none-passes}
+use Rattle.arrays.proofs.Lists.{in-left, in-right, in-split, in-map, map-in, in-flat, flat-in, up-in, in-up, getD-map, in-at, in-place, first-none, none-passes}
 use Rattle.row_gates.specs.Gates.{gateOf, gateRow}
 use Rattle.row_gates.specs.declared.Gate.the-variants.{Mul}
 use Rattle.row_gates.proofs.Rows.{length-gateRow, getD-gateRow, same-row-eq, same-row-of}
@@ -65,7 +65,7 @@ module _ (w p t n : ℕ) (listed : List ℕ) where
     where
       go : (b : Bool) → In s (cond b (orderOf n listed) (countUp 0 n))
       go true = in-order s h
-      go false = in-count 0 n s (omega arith) (omega arith)
+      go false = up-in n s h
 
   pub slots-in : (s : ℕ) → In s (slotsFor w p t n listed) → s < n
   unfolding slotsFor
@@ -73,7 +73,7 @@ module _ (w p t n : ℕ) (listed : List ℕ) where
     where
       go : (b : Bool) → In s (cond b (orderOf n listed) (countUp 0 n)) → s < n
       go true i = order-in s i
-      go false i = omega (arith, count-in 0 n s i .1)
+      go false i = in-up n s i
 
 -- ---- the trials: every two atoms, and every atom with every pair
 module _ (w count : ℕ) (atoms : List ℕ) (n : ℕ) (listed target : List ℕ) where
@@ -88,23 +88,17 @@ module _ (w count : ℕ) (atoms : List ℕ) (n : ℕ) (listed target : List ℕ)
   abbrev slots : ℕ → List ℕ
   slots a = slotsFor w (firstWord atoms a) (getD target 0 0) n listed
 
-  atom-in : (a : ℕ) → a < count → In a (countUp 0 count)
-  atom-in a h = in-count 0 count a (omega arith) (omega arith)
-
-  in-atom : (a : ℕ) → In a (countUp 0 count) → a < count
-  in-atom a h = omega (arith, count-in 0 count a h .1)
-
   in-two : (a b : ℕ) → a < count → b < count → In (Product.ofAtoms a b) all
   unfolding withAtoms
   in-two a b ha hb =
       in-left _ (withAtoms count) (withPairs w count atoms n listed target)
-      (in-flat (λ (k : ℕ). map (Product.ofAtoms k) (countUp 0 count)) a _ (countUp 0 count) (atom-in a ha) (in-map (Product.ofAtoms a) b (countUp 0 count) (atom-in b hb)))
+      (in-flat (λ (k : ℕ). map (Product.ofAtoms k) (countUp 0 count)) a _ (countUp 0 count) (up-in count a ha) (in-map (Product.ofAtoms a) b (countUp 0 count) (up-in count b hb)))
 
   in-pair : (a s : ℕ) → a < count → s < n → In (Product.ofPair a s) all
   unfolding withPairs
   in-pair a s ha hs =
       in-right _ (withAtoms count) (withPairs w count atoms n listed target)
-      (in-flat (λ (k : ℕ). map (Product.ofPair k) (slots k)) a _ (countUp 0 count) (atom-in a ha) (in-map (Product.ofPair a) s (slots a) (in-slots w (firstWord atoms a) (getD target 0 0) n listed s hs)))
+      (in-flat (λ (k : ℕ). map (Product.ofPair k) (slots k)) a _ (countUp 0 count) (up-in count a ha) (in-map (Product.ofPair a) s (slots a) (in-slots w (firstWord atoms a) (getD target 0 0) n listed s hs)))
 
   tried : (x : Product) → In x all → Tried x
   unfolding withAtoms withPairs
@@ -112,11 +106,11 @@ module _ (w count : ℕ) (atoms : List ℕ) (n : ℕ) (listed target : List ℕ)
     | inl i ↦
         let s = flat-in (λ (k : ℕ). map (Product.ofAtoms k) (countUp 0 count)) x (countUp 0 count) i in
         let p = map-in (Product.ofAtoms (s .of)) x (countUp 0 count) (s .at) in
-        two x (s .of) (p .of) (p .is) (in-atom (s .of) (s .within)) (in-atom (p .of) (p .at))
+        two x (s .of) (p .of) (p .is) (in-up count (s .of) (s .within)) (in-up count (p .of) (p .at))
     | inr i ↦
         let s = flat-in (λ (k : ℕ). map (Product.ofPair k) (slots k)) x (countUp 0 count) i in
         let p = map-in (Product.ofPair (s .of)) x (slots (s .of)) (s .at) in
-        pair x (s .of) (p .of) (p .is) (in-atom (s .of) (s .within)) (slots-in w (firstWord atoms (s .of)) (getD target 0 0) n listed (p .of) (p .at))
+        pair x (s .of) (p .of) (p .is) (in-up count (s .of) (s .within)) (slots-in w (firstWord atoms (s .of)) (getD target 0 0) n listed (p .of) (p .at))
   ]
 
   -- no two atoms fit, and no atom with a pair does

@@ -1,6 +1,5 @@
 -- What the passes over the bank and over the index tell is the answer of trying everything. Assumes nothing.
 use mathlib.Core.Path.{_≡_, refl, sym, ap, ap₂, _∙_}
-use mathlib.Core.Bool.{Bool, false}
 use mathlib.Core.Logic.{_⊎_, inl, inr}
 use mathlib.Core.List.{List, map}
 use mathlib.Core.Option.{Option, none, some, Option·map, orElse}
@@ -8,7 +7,7 @@ use Prim.Native.Nat.{ℕ, suc, _-_, _*_, _≤_, _<_}
 use native.Mathlib.Omega.{arith}
 use Rattle.arrays.specs.Lists.{countUp, firstThat, firstOf}
 use Rattle.arrays.specs.Parts.{partAt}
-use Rattle.arrays.proofs.Lists.{count-in, first-none, up-from, up-hit, first-append, first-map, first-flat, of-from, of-hit, of-end}
+use Rattle.arrays.proofs.Lists.{up-from, up-hit, up-nothing, first-append, first-map, first-flat, or-none, of-nothing, of-something}
 use Rattle.limits.proofs.Refusals.{le-or-lt}
 use Rattle.row_gates.specs.Gates.{sameRow}
 use Rattle.row_gates.specs.declared.Gate.{Gate}
@@ -20,21 +19,6 @@ use Rattle.search_residual_map.specs.declared.First.{First}
 use Rattle.search_residual_map.specs.Map.{LeastSlot, Best}
 use Rattle.search_residual.specs.Told.{told, toldUnder, toldFirst}
 use Rattle.search_residual.proofs.Telling.{told-bank, told-index, told-none}
-
--- ---- the first slot that passes, and the first atom that is answered
-up-nothing : (test : ℕ → Bool) (n : ℕ) → ((s : ℕ) → s < n → test s ≡ false) → firstThat test (countUp 0 n) ≡ none
-up-nothing test n h = first-none test (countUp 0 n) (λ s i. h s (omega (arith, count-in 0 n s i .1)))
-
-of-nothing : {B : Type 0} (f : ℕ → Option B) (n : ℕ) → ((a : ℕ) → a < n → f a ≡ none) → firstOf f (countUp 0 n) ≡ none
-of-nothing f n h = sym (of-from f n n (omega arith) h) ∙ of-end f n n (omega arith)
-
-of-something : {B : Type 0} (f : ℕ → Option B) (n m : ℕ) (x : B) → m < n → ((a : ℕ) → a < m → f a ≡ none) → f m ≡ some x → firstOf f (countUp 0 n) ≡ some x
-of-something f n m x l h e = sym (of-from f n m (omega arith) h) ∙ of-hit f n m l x e
-
-or-none : {B : Type 0} (o : Option B) → orElse o none ≡ o
-unfolding orElse
-or-none none = refl
-or-none (some x) = refl
 
 module _ (w count : ℕ) (atoms : List ℕ) (n : ℕ) (listed target : List ℕ) (bank index : First)
     (in-bank : Best w count atoms target atoms count 0 (bank .at) (bank .slot))

@@ -5,6 +5,7 @@ use mathlib.Core.List.{List, [], _∷_}
 use Prim.Native.Nat.{ℕ, _+_, _*_, _%_, _^_, _≤_, _<_}
 use native.Mathlib.Nat.{mod-lt}
 use native.Mathlib.Omega.{arith}
+use lib.Bits.{bitXor}
 use lib.ListN.{getD}
 use lib.Pow.{pow-pos}
 use Rattle.arrays.specs.Parts.{partAt}
@@ -13,13 +14,15 @@ use Rattle.row_gates.proofs.Rows.{same-row-eq}
 use Rattle.row_map.specs.Map.{Top, Chained}
 use Rattle.row_map.proofs.Walks.{Walk, walk-start, walk-on}
 use Rattle.search_residual_trial.specs.Steps.{wanted, same}
-use Rattle.search_residual_map.specs.Map.{mixer, mixedFrom, mixed, homeOf, Read}
+use Rattle.search_residual_map.specs.Map.{mixer, swappedOf, mixedFrom, mixed, homeOf, Read}
 
 -- every row has a chain
 mixed-lt : (sum power : ℕ) (row : List ℕ) → sum < 2 ^ 64 → mixedFrom sum power row < 2 ^ 64
 unfolding mixedFrom
 mixed-lt sum power [] h = h
-mixed-lt sum power (x ∷ row) h = mixed-lt ((sum + x * power % 2 ^ 64) % 2 ^ 64) (power * mixer % 2 ^ 64) row (mod-lt (sum + x * power % 2 ^ 64) (pow-pos 64))
+mixed-lt sum power (x ∷ []) h = h
+mixed-lt sum power (x ∷ (y ∷ row)) h =
+    mixed-lt ((sum + bitXor x (swappedOf y) * power % 2 ^ 64) % 2 ^ 64) (power * mixer % 2 ^ 64) row (mod-lt (sum + bitXor x (swappedOf y) * power % 2 ^ 64) (pow-pos 64))
 
 pub home-small : (row : List ℕ) → homeOf row < 4096
 unfolding homeOf mixed

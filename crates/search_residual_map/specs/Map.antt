@@ -3,6 +3,7 @@ use mathlib.Core.Path.{_≡_}
 use mathlib.Core.Bool.{true, false}
 use mathlib.Core.List.{List, [], _∷_}
 use Prim.Native.Nat.{ℕ, suc, _+_, _*_, _/_, _%_, _^_, _≤_, _<_}
+use lib.Bits.{bitXor}
 use lib.ListN.{length}
 use Rattle.limits.specs.Limits.{atomsMax}
 use Rattle.row_map.specs.Map.{Chained}
@@ -12,10 +13,15 @@ use Rattle.search_residual_trial.specs.Steps.{wanted, same}
 abbrev pub mixer : ℕ
 mixer = 0x9e3779b97f4a7c15
 
--- the sum of the words, each times a power of the constant, modulo 2^64
+-- the two halves of a word exchanged
+unfoldable pub swappedOf : ℕ → ℕ
+swappedOf x = (x * 2 ^ 32 % 2 ^ 64 + x / 2 ^ 32) % 2 ^ 64
+
+-- the sum of the words, two by two, times powers of the constant, modulo 2^64
 unfoldable pub mixedFrom : ℕ → ℕ → List ℕ → ℕ
 mixedFrom sum power [] = sum
-mixedFrom sum power (x ∷ row) = mixedFrom ((sum + x * power % 2 ^ 64) % 2 ^ 64) (power * mixer % 2 ^ 64) row
+mixedFrom sum power (x ∷ []) = sum
+mixedFrom sum power (x ∷ (y ∷ row)) = mixedFrom ((sum + bitXor x (swappedOf y) * power % 2 ^ 64) % 2 ^ 64) (power * mixer % 2 ^ 64) row
 
 unfoldable pub mixed : List ℕ → ℕ
 unfolding mixedFrom

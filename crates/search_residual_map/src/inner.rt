@@ -8,17 +8,26 @@ ghost use Prim.Native.Nat.{_+_, _*_, _^_, _≤_, _<_};
 ghost use lib.ListN.{length, getD};
 ghost use Rattle.arrays.specs.Parts.{partAt};
 ghost use Rattle.search_residual_trial.specs.Steps.{outerAt, atomAt, wanted, same};
-ghost use Rattle.search_residual_map.specs.Map.{mixed, homeOf, Asked, Wanted, Read, Best};
+ghost use Rattle.search_residual_map.specs.Map.{swappedOf, mixed, homeOf, Asked, Wanted, Read, Best};
 
 // There are 2^12 chains.
 const HOME_BITS: u32 = 12;
 
 const HEADS: usize = 4096;
 
-// The constant whose powers the words of a row are multiplied with.
+// The constant whose powers the words of a row are multiplied with, two at a time.
 const MIX: u64 = 0x9E37_79B9_7F4A_7C15;
 
-// The sum of a row's words, each times a power of the constant.
+const WORD_PAIRS: usize = 8;
+
+// A word with its halves exchanged: the low ones of a product depend on high bits too.
+fn swapped(x: u64) -> u64
+    ensures { λ r. ⌜ r ≡ swappedOf x ⌝ }
+{
+    std::num::wrapping_add_u64(x << 32, x >> 32)
+}
+
+// The sum of a row's words, two by two, times powers of the constant.
 fn mix_row(rows: &[u64], slot: usize) -> u64
     requires { ⌜ 16 * slot + 16 ≤ length (now rows) ⌝ }
     ensures { λ r. ⌜ r ≡ mixed (partAt 16 (now (rows .entry)) slot) ⌝ }
@@ -26,11 +35,12 @@ fn mix_row(rows: &[u64], slot: usize) -> u64
     let base = ROW_WORDS * slot;
     let mut sum: u64 = 0;
     let mut power: u64 = MIX;
-    let mut j: usize = 0;
-    while j < ROW_WORDS {
-        sum = std::num::wrapping_add_u64(sum, arith::wrapping_mul(rows[base + j], power));
+    let mut i: usize = 0;
+    while i < WORD_PAIRS {
+        let word = rows[base + 2 * i] ^ swapped(rows[base + 2 * i + 1]);
+        sum = std::num::wrapping_add_u64(sum, arith::wrapping_mul(word, power));
         power = arith::wrapping_mul(power, MIX);
-        j += 1;
+        i += 1;
     }
     sum
 }
@@ -104,7 +114,7 @@ fn is_wanted(
     search_residual_trial::inner::completes(rows, slot, atoms, a, target, g, w)
 }
 
-// The entry of the first trial before those that `beaten` has, whose residual row is row `slot`; `beaten` where there is none. The chain begins at `head`.
+// The entry of the first trial whose residual row is row `slot`, if it is above `beaten`, an earlier trial's than that; else `beaten`. The chain begins at `head`.
 fn walk(
     work: &[u32],
     head: u32,
@@ -131,7 +141,7 @@ fn walk(
     beaten
 }
 
-// One pass over the first n rows for all residual rows: the first trial before those that `beaten` has, whose residual row is among them, and the least slot that has it.
+// One pass over the first n rows for all residual rows: the entry of the first trial whose residual row is among them, if it is above `beaten`, and the least slot that has it; else `beaten`.
 pub fn first_of(
     work: &[u32],
     beaten: u32,

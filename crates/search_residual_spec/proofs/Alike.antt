@@ -1,12 +1,13 @@
 -- The residual search turns back as the product search does that is lent the right order list, whose tests then pass. Assumes nothing.
-use mathlib.Core.Path.{_≡_, refl, sym, ap, ap₂, _∙_}
-use mathlib.Core.Bool.{Bool, true, false, not, _||_}
+use mathlib.Core.Path.{_≡_, sym, ap, ap₂, _∙_}
+use mathlib.Core.Bool.{Bool, false, not, _||_}
 use mathlib.Core.List.{List}
 use Prim.Native.Nat.{ℕ, _^_}
 use native.Mathlib.Omega.{arith}
 use borrow.Author.Tests.{le-ltb}
 use lib.ListN.{length, take}
 use lib.Seq.{take-all}
+use Rattle.arrays.proofs.Lists.{or-false}
 use Rattle.limits.specs.Refusal.{refuse, badWidth}
 use Rattle.limits.specs.Limits.{tooFewRows, tooManyAtoms, tooManyPairs}
 use Rattle.index_order.specs.Order.{orderOf}
@@ -14,10 +15,6 @@ use Rattle.index_order.proofs.OrderLaws.{order-length, order-exactly}
 use Rattle.row_lent.specs.Range.{reaches}
 use Rattle.search_filter.specs.Refusals.{shortPairs, wrongOrder}
 use Rattle.search_residual_spec.specs.Sums.{TurnsBackAlike}
-
-or-false : (b : Bool) → b || false ≡ b
-or-false true = refl
-or-false false = refl
 
 -- the order list has an entry for each pair, and passes its test
 order-there : (n : ℕ) (listed : List ℕ) → shortPairs n listed (orderOf n listed) ≡ tooFewRows n listed

@@ -9,7 +9,6 @@ use native.Mathlib.Omega.{arith}
 use lib.ListN.{length, getD}
 use Rattle.arrays.specs.Parts.{partAt}
 use Rattle.arrays.proofs.Lists.{false-true, is-false}
-use Rattle.arrays.proofs.Parts.{length-part}
 use Rattle.row_gates.specs.Gates.{gateRow, sameRow}
 use Rattle.row_gates.specs.declared.Gate.{Gate}
 use Rattle.row_gates.proofs.GateLaws.{gate-lt}
@@ -26,7 +25,7 @@ use Rattle.search_residual_spec.proofs.Trials.{hit-gives, gives-hit, Tr
 -- ---- what is shown
 module _ {w count : ℕ} {atoms : List ℕ} {n : ℕ} {listed target : List ℕ} (lent : Lent w count atoms n listed target) where
   long-atom : (a : ℕ) → a < count → length (partAt 16 atoms a) ≡ 16
-  long-atom a h = length-part 16 atoms a (omega (arith, lent .atoms-fit))
+  long-atom = let fit : Fit w count atoms 0 = record { rows = lent .atoms-fit } in atom-long fit
 
   -- a row that a lookup of atom a found
   given : (outer : Gate) → Outer outer → (a : ℕ) → a < count → (row : List ℕ) → sameRow row (completing outer w target atoms a) ≡ true → Gives outer w target (partAt 16 atoms a) row

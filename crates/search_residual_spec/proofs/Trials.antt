@@ -10,7 +10,7 @@ use lib.ListN.{length, getD}
 use lib.Seq.{ext-getD}
 use Rattle.arrays.specs.Lists.{countUp, In}
 use Rattle.arrays.specs.Parts.{partAt}
-use Rattle.arrays.proofs.Lists.{in-left, in-right, in-split, in-map, map-in, in-flat, flat-in, in-count, count-in, first-none, first-passes, none-passes}
+use Rattle.arrays.proofs.Lists.{in-left, in-right, in-split, in-map, map-in, in-flat, flat-in, up-in, in-up, first-none, first-passes, none-passes}
 use Rattle.row_gates.specs.Gates.{gateOf, residualOf, invertible, sameRow}
 use Rattle.row_gates.specs.declared.Gate.{Gate}
 use Rattle.row_gates.proofs.GateLaws.{residual-completes, residual-only}
@@ -59,28 +59,22 @@ module _ (w count : ℕ) (atoms : List ℕ) (n : ℕ) (listed target : List ℕ)
   abbrev all : List Completion
   all = flatMap (underGate count n) outerGates
 
-  slot-in : (m k : ℕ) → k < m → In k (countUp 0 m)
-  slot-in m k h = in-count 0 m k (omega arith) (omega arith)
-
-  in-slot : (m k : ℕ) → In k (countUp 0 m) → k < m
-  in-slot m k h = omega (arith, count-in 0 m k h .1)
-
   -- a lookup of an atom under an outer gate
   in-all : (g : Gate) → Outer g → (a : ℕ) → a < count → (x : Completion) → In x (lookups count n g a) → In x all
   unfolding underGate
-  in-all g o a h x i = in-flat (underGate count n) g x outerGates (outer-in g o) (in-flat (lookups count n g) a x (countUp 0 count) (slot-in count a h) i)
+  in-all g o a h x i = in-flat (underGate count n) g x outerGates (outer-in g o) (in-flat (lookups count n g) a x (countUp 0 count) (up-in count a h) i)
 
   in-two : (g : Gate) → Outer g → (a b : ℕ) → a < count → b < count → In (Completion.ofAtoms g a b) all
   unfolding lookups
   in-two g o a b ha hb =
       in-all g o a ha (Completion.ofAtoms g a b)
-      (in-left _ (map (Completion.ofAtoms g a) (countUp 0 count)) (map (Completion.ofPair g a) (countUp 0 n)) (in-map (Completion.ofAtoms g a) b (countUp 0 count) (slot-in count b hb)))
+      (in-left _ (map (Completion.ofAtoms g a) (countUp 0 count)) (map (Completion.ofPair g a) (countUp 0 n)) (in-map (Completion.ofAtoms g a) b (countUp 0 count) (up-in count b hb)))
 
   in-pair : (g : Gate) → Outer g → (a s : ℕ) → a < count → s < n → In (Completion.ofPair g a s) all
   unfolding lookups
   in-pair g o a s ha hs =
       in-all g o a ha (Completion.ofPair g a s)
-      (in-right _ (map (Completion.ofAtoms g a) (countUp 0 count)) (map (Completion.ofPair g a) (countUp 0 n)) (in-map (Completion.ofPair g a) s (countUp 0 n) (slot-in n s hs)))
+      (in-right _ (map (Completion.ofAtoms g a) (countUp 0 count)) (map (Completion.ofPair g a) (countUp 0 n)) (in-map (Completion.ofPair g a) s (countUp 0 n) (up-in n s hs)))
 
   tried : (x : Completion) → In x all → Tried x
   unfolding underGate lookups
@@ -88,10 +82,10 @@ module _ (w count : ℕ) (atoms : List ℕ) (n : ℕ) (listed target : List ℕ)
       let g = flat-in (underGate count n) x outerGates i in
       let a = flat-in (lookups count n (g .of)) x (countUp 0 count) (g .at) in
       let o = in-outer (g .of) (g .within) in
-      let h = in-slot count (a .of) (a .within) in
+      let h = in-up count (a .of) (a .within) in
       elim (in-split x (map (Completion.ofAtoms (g .of) (a .of)) (countUp 0 count)) (map (Completion.ofPair (g .of) (a .of)) (countUp 0 n)) (a .at)) [
-        | inl p ↦ let b = map-in (Completion.ofAtoms (g .of) (a .of)) x (countUp 0 count) p in two x (g .of) (a .of) (b .of) (b .is) o h (in-slot count (b .of) (b .at))
-        | inr p ↦ let s = map-in (Completion.ofPair (g .of) (a .of)) x (countUp 0 n) p in pair x (g .of) (a .of) (s .of) (s .is) o h (in-slot n (s .of) (s .at))
+        | inl p ↦ let b = map-in (Completion.ofAtoms (g .of) (a .of)) x (countUp 0 count) p in two x (g .of) (a .of) (b .of) (b .is) o h (in-up count (b .of) (b .at))
+        | inr p ↦ let s = map-in (Completion.ofPair (g .of) (a .of)) x (countUp 0 n) p in pair x (g .of) (a .of) (s .of) (s .is) o h (in-up n (s .of) (s .at))
       ]
 
   -- no lookup hits

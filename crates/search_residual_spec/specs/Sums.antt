@@ -77,6 +77,14 @@ SumsAndXors =
 abbrev pub BuiltRowsBelow : Type 0
 BuiltRowsBelow = (w count : ℕ) (atoms : List ℕ) (built : BuiltBank count atoms) → built .w ≤ w → RowsBelow w count atoms
 
+-- so on a bank built at the width of the search, or at a smaller one, with an uncut index of its own, "nothing" is true
+abbrev pub NothingOnBuilt : Type 0
+NothingOnBuilt =
+    (w count : ℕ) (atoms : List ℕ) (L n : ℕ) (listed order target : List ℕ) (found : Option Completion) (built : BuiltBank count atoms)
+    → built .w ≤ w → OwnIndex w count atoms L n listed order → Uncut w count atoms L → length target ≡ 16
+    → completion w count atoms n listed target ≡ answer found
+    → (found ≡ none) ↔ NoResidual w count atoms target
+
 -- 02, 2.1: it turns back as the product search does that is lent the right order list
 abbrev pub TurnsBackAlike : Type 0
 TurnsBackAlike =
