@@ -133,6 +133,17 @@ count-start n = let e : n - 0 ≡ n = omega arith in ap (countUp 0) e
 
 -- ---- places
 -- an element of a mapped list
+pub length-count : (i n : ℕ) → length (countUp i n) ≡ n
+unfolding countUp
+length-count i zero = refl
+length-count i (suc n) = ap suc (length-count (suc i) n)
+
+pub getD-count : (i n k d : ℕ) → k < n → getD (countUp i n) k d ≡ i + k
+unfolding countUp
+getD-count i zero k d h = absurd (omega arith)
+getD-count i (suc n) zero d h = omega arith
+getD-count i (suc n) (suc k) d h = getD-count (suc i) n k d (omega arith) ∙ omega arith
+
 pub getD-map : {A B : Type 0} (f : A → B) (l : List A) (k : ℕ) (d : A) (e : B) → k < length l → getD (map f l) k e ≡ f (getD l k d)
 getD-map f [] k d e h = absurd (omega arith)
 getD-map f (a ∷ l) zero d e h = refl
@@ -180,6 +191,36 @@ module _ {A : Type 0} (test : A → Bool) where
   unfolding keep
   keep-same other [] h = refl
   keep-same other (x ∷ l) h = ap₂ (λ (b : Bool) (m : List A). cond b (x ∷ m) m) (h x) (keep-same other l h)
+
+  pub keep-append : (xs ys : List A) → keep test (xs ++ ys) ≡ keep test xs ++ keep test ys
+  unfolding keep
+  keep-append [] ys = refl
+  keep-append (x ∷ xs) ys = go (bool-cases (test x)) (keep-append xs ys)
+    where
+      go : (test x ≡ true) ⊎ (test x ≡ false) → keep test (xs ++ ys) ≡ keep test xs ++ keep test ys → keep test (x ∷ (xs ++ ys)) ≡ keep test (x ∷ xs) ++ keep test ys
+      go (inl p) e = keep-yes test x (xs ++ ys) p ∙ ap (λ (l : List A). x ∷ l) e ∙ ap (λ (l : List A). l ++ keep test ys) (sym (keep-yes test x xs p))
+      go (inr p) e = keep-no test x (xs ++ ys) p ∙ e ∙ ap (λ (l : List A). l ++ keep test ys) (sym (keep-no test x xs p))
+
+  -- what is kept is of the list, and passes
+  pub keep-in : (l : List A) (x : A) → In x (keep test l) → In x l × (test x ≡ true)
+  unfolding keep
+  keep-in [] x h = absurd h
+  keep-in (y ∷ l) x h = go (bool-cases (test y)) (keep-in l x)
+    where
+      go : (test y ≡ true) ⊎ (test y ≡ false) → (In x (keep test l) → In x l × (test x ≡ true)) → In x (y ∷ l) × (test x ≡ true)
+      go (inl p) rest = elim (subst (In x) (keep-yes test y l p) h) [ inl e ↦ (inl e, ap test e ∙ p) | inr i ↦ (inr (rest i .0), rest i .1) ]
+      go (inr p) rest = let i = rest (subst (In x) (keep-no test y l p) h) in (inr (i .0), i .1)
+
+  pub in-keep : (l : List A) (x : A) → In x l → test x ≡ true → In x (keep test l)
+  unfolding keep
+  in-keep [] x h e = absurd h
+  in-keep (y ∷ l) x h e = go (bool-cases (test y)) h (in-keep l x)
+    where
+      go : (test y ≡ true) ⊎ (test y ≡ false) → In x (y ∷ l) → (In x l → test x ≡ true → In x (keep test l)) → In x (keep test (y ∷ l))
+      go (inl p) (inl q) rest = subst (In x) (sym (keep-yes test y l p)) (inl q)
+      go (inl p) (inr i) rest = subst (In x) (sym (keep-yes test y l p)) (inr (rest i e))
+      go (inr p) (inl q) rest = absurd (false-true (sym p ∙ ap test (sym q) ∙ e))
+      go (inr p) (inr i) rest = subst (In x) (sym (keep-no test y l p)) (rest i e)
 
   -- none is the first exactly if none passes
   pub first-none : (l : List A) → ((x : A) → In x l → test x ≡ false) → firstThat test l ≡ none

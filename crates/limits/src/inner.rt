@@ -5,7 +5,7 @@ ghost use mathlib.Core.Path.{_≡_};
 ghost use Rattle.limits.specs.Refusal.{outsideOf, badCount, badWidth};
 
 // Whether n is below `low` or above `high`.
-pub fn outside(n: u32, low: u32, high: u32) -> bool
+pub fn outside(n: u64, low: u64, high: u64) -> bool
     ensures { λ r. ⌜ r ≡ outsideOf low high n ⌝ }
 {
     if n < low {
@@ -18,12 +18,12 @@ pub fn outside(n: u32, low: u32, high: u32) -> bool
 pub fn bad_count(nv: u32) -> bool
     ensures { λ r. ⌜ r ≡ badCount nv ⌝ }
 {
-    outside(nv, 1, MAX_VARS)
+    outside(nv as u64, 1, MAX_VARS as u64)
 }
 
 // Whether a width is not 1 to 64: refusal 2.
 pub fn bad_width(w: u32) -> bool
     ensures { λ r. ⌜ r ≡ badWidth w ⌝ }
 {
-    outside(w, 1, MAX_WIDTH)
+    outside(w as u64, 1, MAX_WIDTH as u64)
 }

@@ -12,7 +12,6 @@ use row_gates::ROW_WORDS;
 ghost use mathlib.Core.Path.{_≡_};
 ghost use Prim.Native.Nat.{_+_, _≤_};
 ghost use lib.ListN.{length};
-ghost use Rattle.limits.specs.Refusal.{outsideOf};
 ghost use Rattle.bank_spec.specs.Bank.{bankOf};
 ghost use Rattle.bank_parts.specs.Parts.{arrays};
 ghost use Rattle.bank_unary.specs.Phases.{Asked};
@@ -86,16 +85,6 @@ fn target_of(numbers: [u64; 115], nv: usize) -> [u64; 16]
     row
 }
 
-// Whether n is below `low` or above `high`.
-fn outside(n: u64, low: u64, high: u64) -> bool
-    ensures { λ r. ⌜ r ≡ outsideOf low high n ⌝ }
-{
-    if n < low {
-        return true;
-    }
-    high < n
-}
-
 // The refusal of a word that isn't below 2^w: the bank build's, in arrays that are long enough.
 fn reach_refusal(numbers: [u64; 115]) -> u32
     requires { ⌜ InRange numbers ⌝ }
@@ -119,10 +108,10 @@ fn reach_refusal(numbers: [u64; 115]) -> u32
 pub fn refusal_of(numbers: [u64; 115]) -> u32
     ensures { λ r. ⌜ r ≡ numbersRefusal numbers ⌝ }
 {
-    if outside(numbers[COUNT_AT], 1, limits::MAX_VARS as u64) {
+    if limits::inner::outside(numbers[COUNT_AT], 1, limits::MAX_VARS as u64) {
         return 1;
     }
-    if outside(numbers[WIDTH_AT], 1, limits::MAX_WIDTH as u64) {
+    if limits::inner::outside(numbers[WIDTH_AT], 1, limits::MAX_WIDTH as u64) {
         return 2;
     }
     if LIMIT_MAX < numbers[LIMIT_AT] {
