@@ -3,7 +3,7 @@ use mathlib.Core.Path.{_≡_, refl, sym, ap, ap₂, _∙_}
 use mathlib.Core.Logic.{inl, inr}
 use mathlib.Core.Bool.{Bool, true, false, cond, _||_}
 use mathlib.Core.List.{List, [], _∷_, map}
-use mathlib.Core.Option.{Option, none, some}
+use mathlib.Core.Option.{none, some}
 use Prim.Native.Nat.{ℕ, zero, suc, _+_, _*_, _^_, _≤_, _<_}
 use native.Mathlib.Nat.{mul-suc, mul-le-mul-left}
 use native.Mathlib.Omega.{arith}
@@ -20,8 +20,9 @@ use Rattle.bank_spec.specs.Encoding.{padTo}
 use Rattle.bank_spec.specs.Bank.{bankOf}
 use Rattle.row_lent.specs.Range.{reaches}
 use Rattle.bank.specs.Build.{pointsReach}
-use Rattle.text_parse.specs.Text.{rightMany, ifRight, numbersOf, wordsOf, readText}
+use Rattle.text_parse.specs.Text.{listingMany, readText}
 use Rattle.text_parse.specs.Reading.{Keeps, Given}
+use Rattle.text_parse.proofs.Rules.{right-many}
 use Rattle.text_print.specs.Text.{refusedLine, listingOf}
 use Rattle.text_print.specs.Printing.{Wrote, textMax}
 use Rattle.text_print.proofs.Decimals.{reads}
@@ -31,28 +32,13 @@ use Rattle.listing.specs.Steps.{pointFrom, bankIndex}
 use Rattle.listing.proofs.Refusing.{number-1, none-refused}
 
 -- ---- a text that 9 doesn't turn back has right many numbers
-none-some : (ns : List ℕ) → _≡_ {A = Option (List ℕ)} none (some ns) → ⊥
-none-some ns e = let z : _≡_ {A = ℕ} 0 1 = cc in omega arith
-
-right-of : (o : Option (List ℕ)) (ns : List ℕ) → ifRight o ≡ some ns → rightMany ns ≡ true
-unfolding ifRight
-right-of none ns e = absurd (none-some ns e)
-right-of (some ms) ns e = elim (bool-cases (rightMany ms)) [
-  | inl t ↦ go t (sym (ap (λ (b : Bool). cond b (some ms) none) t) ∙ e)
-  | inr f ↦ absurd (none-some ns (sym (ap (λ (b : Bool). cond b (some ms) none) f) ∙ e))
-]
-  where
-    go : rightMany ms ≡ true → some ms ≡ some ns → rightMany ns ≡ true
-    go t e = let same : ms ≡ ns = cc in ap rightMany (sym same) ∙ t
-
-many : (ns : List ℕ) → rightMany ns ≡ true → length ns ≡ 19 + 16 * countOf ns
-unfolding rightMany
+many : (ns : List ℕ) → listingMany ns ≡ true → length ns ≡ 19 + 16 * countOf ns
+unfolding listingMany
 many [] e = absurd (false-true e)
 many (n ∷ ns) e = eqb-true _ _ e
 
-many-read : (text ns : List ℕ) → readText text ≡ some ns → length ns ≡ 19 + 16 * countOf ns
-unfolding readText
-many-read text ns e = many ns (right-of (numbersOf (wordsOf text)) ns e)
+many-read : (text ns : List ℕ) → readText listingMany text ≡ some ns → length ns ≡ 19 + 16 * countOf ns
+many-read text ns e = many ns (right-many listingMany text ns e)
 
 -- ---- what is asked for
 -- functions that agree on the numbers counted have the same values
@@ -134,11 +120,11 @@ module _ (numbers ns : List ℕ) (keeps : Keeps numbers ns) (right : length ns �
 
 -- ---- the text
 module _ (text : List ℕ) where
-  pub listing-nine : readText text ≡ none → refusedLine 9 ≡ listing text
+  pub listing-nine : readText listingMany text ≡ none → refusedLine 9 ≡ listing text
   unfolding listing textOf
   listing-nine e = sym (ap textOf e)
 
-  module _ (ns : List ℕ) (e : readText text ≡ some ns) where
+  module _ (ns : List ℕ) (e : readText listingMany text ≡ some ns) where
     listing-refused : (n : ℕ) → n ≡ numbersRefusal ns → 0 < n → refusedLine n ≡ listing text
     unfolding listing textOf
     listing-refused n f h =
@@ -163,7 +149,7 @@ laid xs ys e w h =
     }
 
 -- ---- the numbers of a text that 9 doesn't turn back
-module _ (text numbers : List ℕ) (given : Given numbers text) where
+module _ (text numbers : List ℕ) (given : Given listingMany numbers text) where
   kept : numbersRefusal numbers ≡ numbersRefusal (given .ns)
   kept = refusal-kept numbers (given .ns) (given .keeps) (many-read text (given .ns) (given .is))
 

@@ -16,7 +16,7 @@ use Rattle.index_spec.specs.Index.{allGates, indexOf}
 use Rattle.row_lent.specs.Range.{reaches}
 use Rattle.bank.specs.Build.{pointsReach}
 use Rattle.text_parse.specs.declared.Parse.{Parse}
-use Rattle.text_parse.specs.Text.{readText}
+use Rattle.text_parse.specs.Text.{listingMany, readText}
 use Rattle.text_parse.specs.Reading.{Reads}
 use Rattle.text_print.specs.Text.{listingOf, refusedLine}
 use Rattle.text_print.specs.Printing.{Wrote, textMax}
@@ -73,8 +73,8 @@ textOf (some ns) = cond (ltb 0 (numbersRefusal ns)) (refusedLine (numbersRefusal
 
 -- 01, Listing program: what is written of what is read
 unfoldable pub listing : List ℕ → List ℕ
-unfolding textOf readText
-listing text = textOf (readText text)
+unfolding textOf listingMany readText
+listing text = textOf (readText listingMany text)
 
 -- ---- the call
 -- what each case of `ListingAnswer` says: its refusal, or how long the text is that stands in the buffer

@@ -1,3 +1,4 @@
 -- The laws of this crate.
 mod Words
 mod Readings
+pub mod Rules

@@ -1,7 +1,7 @@
 -- What one byte does to a reading, and what its end says: the words of the whole text are those done, the one begun, and those of the rest.
 -- Assumes nothing.
 use mathlib.Core.Path.{_≡_, refl, sym, ap, _∙_}
-use mathlib.Core.Bool.{Bool, true, false, _&&_, and-false}
+use mathlib.Core.Bool.{Bool, true, false, cond, _&&_, _||_, not, and-false}
 use mathlib.Core.List.{List, [], _∷_, _++_, append-nil}
 use mathlib.Core.Option.{Option, none, some}
 use Prim.Native.Nat.{ℕ, zero, suc, _+_, _-_, _*_, _%_, _≤_, _<_, _^_}
@@ -15,9 +15,9 @@ use lib.Seq.{append-snoc, getD-set-same, getD-set-other, getD-at}
 use Rattle.arrays.proofs.Lists.{false-true}
 use Rattle.text_parse.specs.declared.Parse.{Parse}
 use Rattle.text_parse.specs.declared.Input.{Input}
-use Rattle.text_parse.specs.Text.{isParting, isDigit, allDigits, valueOf, isNumber, withWord, wordsAfter, wordsOf, before, numbersOf, rightMany, ifRight, readText}
+use Rattle.text_parse.specs.Text.{isParting, isDigit, allDigits, valueOf, isNumber, withWord, wordsAfter, wordsOf, before, numbersOf, listingMany, loadMany, ifMany, readText}
 use Rattle.text_parse.specs.Reading.{kept, Keeps, ahead, Midway, Reads, Ends}
-use Rattle.text_parse.specs.Steps.{Fed, Parted}
+use Rattle.text_parse.specs.Steps.{Fed, Parted, AtEnd, answered}
 use Rattle.text_parse.proofs.Words.{digits-snoc, value-snoc, spoils, after-parting, after-other, numbers-of, ahead-before, parted-end}
 
 -- ---- bytes
@@ -243,11 +243,6 @@ passed p between clean =
     }
 
 -- ---- the end
-right-is : (numbers done : List ℕ) (count : ℕ) → Keeps numbers done → count ≡ length done → rightMany done ≡ eqb count (19 + 16 * getD numbers 0 0)
-unfolding rightMany
-right-is numbers [] count k e = sym (ne-eqb count (19 + 16 * getD numbers 0 0) (λ f. omega arith))
-right-is numbers (n ∷ ns) count k e = rw (e, k .is 0 (omega arith) (omega arith))
-
 -- the numbers of a text whose last number is at its end
 all-done : (q : Parse) (text : List ℕ) (m : Midway q (text ++ (32 ∷ []))) → m .word ≡ [] → numbersOf (wordsOf text) ≡ some (m .done)
 unfolding wordsOf wordsAfter withWord numbersOf ahead
@@ -258,22 +253,65 @@ all-done q text m none-begun =
     ∙ ap (λ w. ahead (m .done) (numbersOf (wordsAfter w []))) none-begun
     ∙ ap (λ (l : List ℕ). some l) (append-nil (m .done))
 
-pub ended : (p q : Parse) (r : Input) → p .spoilt ≡ false → Parted p q → (r .fits ≡ true → r .numbers ≡ q .numbers) → (r .fits ≡ false → r .numbers ≡ replicate kept 0)
-    → r .fits ≡ eqb (q .count) (19 + 16 * getD (q .numbers) 0 0)
-    → (text : List ℕ) → length text + 1 < 2 ^ 64 → Reads p text → Ends r text
-unfolding readText ifRight
-ended p q r clean parted numbers zeros fits text small h =
-    let m = parted .reads 32 refl text small h .midway (parted .clean) in
-    let all = all-done q text m (m .between (parted .between)) in
-    let right = right-is (q .numbers) (m .done) (q .count) (m .keeps) (m .count) ∙ sym fits in
+-- a parting byte at the end changes no word, and after it all numbers are done
+pub at-end : (p q : Parse) → p .spoilt ≡ false → Parted p q → AtEnd p q
+at-end p q clean parted =
     record {
-      given = λ yes. record { ns = m .done; is = rw (all, right, yes); keeps = rw (numbers yes) (m .keeps) };
-      refused = λ no. rw (all, right, no);
-      zeros = zeros;
+      counts =
+          λ _ text small h.
+          let m = parted .reads 32 refl text small h .midway (parted .clean) in
+          record {
+            ns = m .done;
+            is = all-done q text m (m .between (parted .between));
+            count = m .count;
+            keeps = m .keeps;
+          };
+      spoilt = λ e. absurd (false-true (sym (parted .clean) ∙ e));
     }
 
-pub ended-spoilt : (p : Parse) (r : Input) → p .spoilt ≡ true → r .fits ≡ false → r .numbers ≡ replicate kept 0 → (text : List ℕ) → Reads p text → Ends r text
-unfolding readText ifRight
-ended-spoilt p r bad fits zeros text h =
-    let all = ap (λ (l : List ℕ). numbersOf (wordsOf l)) (sym (append-nil text)) ∙ h .spoilt bad [] in
-    record { given = λ yes. absurd (false-true (sym fits ∙ yes)); refused = λ _. rw all; zeros = λ _. zeros }
+pub at-end-spoilt : (p : Parse) → p .spoilt ≡ true → AtEnd p p
+at-end-spoilt p bad =
+    record {
+      counts = λ e. absurd (false-true (sym e ∙ bad));
+      spoilt = λ _ text h. ap (λ (l : List ℕ). numbersOf (wordsOf l)) (sym (append-nil text)) ∙ h .spoilt bad [];
+    }
+
+-- ---- what is answered, under any rule that the test follows
+pub ended : (many : List ℕ → Bool) (p q : Parse) (right : Bool) → AtEnd p q → ((ns : List ℕ) → q .count ≡ length ns → Keeps (q .numbers) ns → right ≡ many ns)
+    → (r : Input) → r ≡ answered q right → (text : List ℕ) → length text + 1 < 2 ^ 64 → Reads p text → Ends many r text
+unfolding readText ifMany
+ended many p q right at follows r e text small h = go (q .spoilt) right refl refl e
+  where
+    go : (bad fits : Bool) → q .spoilt ≡ bad → right ≡ fits → r ≡ cond (bad || not fits) (record { fits = false; numbers = replicate kept 0 }) (record { fits = true; numbers = q .numbers }) → Ends many r text
+    go true fits bad w a =
+        record {
+          given = λ yes. absurd (false-true (sym (ap (λ (i : Input). i .fits) a) ∙ yes));
+          refused = λ _. rw (at .spoilt bad text h);
+          zeros = λ _. ap (λ (i : Input). i .numbers) a;
+        }
+    go false true clean w a =
+        let n = at .counts clean text small h in
+        let so : many (n .ns) ≡ true = sym (follows (n .ns) (n .count) (n .keeps)) ∙ w in
+        record {
+          given = λ yes. record { ns = n .ns; is = rw (n .is, so); keeps = rw (ap (λ (i : Input). i .numbers) a) (n .keeps) };
+          refused = λ no. absurd (false-true (sym no ∙ ap (λ (i : Input). i .fits) a));
+          zeros = λ no. absurd (false-true (sym no ∙ ap (λ (i : Input). i .fits) a));
+        }
+    go false false clean w a =
+        let n = at .counts clean text small h in
+        let so : many (n .ns) ≡ false = sym (follows (n .ns) (n .count) (n .keeps)) ∙ w in
+        record {
+          given = λ yes. absurd (false-true (sym (ap (λ (i : Input). i .fits) a) ∙ yes));
+          refused = λ _. rw (n .is, so);
+          zeros = λ _. ap (λ (i : Input). i .numbers) a;
+        }
+
+-- the two rules, by the count and the first number
+pub listing-follows : (numbers : List ℕ) (count : ℕ) (right : Bool) → right ≡ eqb count (19 + 16 * getD numbers 0 0) → (ns : List ℕ) → count ≡ length ns → Keeps numbers ns → right ≡ listingMany ns
+unfolding listingMany
+listing-follows numbers count right is [] e k = is ∙ ne-eqb count (19 + 16 * getD numbers 0 0) (λ f. omega arith)
+listing-follows numbers count right is (n ∷ ns) e k = is ∙ rw (e, k .is 0 (omega arith) (omega arith))
+
+pub load-follows : (count : ℕ) (right : Bool) → right ≡ eqb count 5 → (ns : List ℕ) → count ≡ length ns → right ≡ loadMany ns
+unfolding loadMany
+load-follows count right is ns e = is ∙ ap (λ (n : ℕ). eqb n 5) e

@@ -1,6 +1,6 @@
 -- Where a reading stands, and what its end says. Assumes nothing.
 use mathlib.Core.Path.{_≡_}
-use mathlib.Core.Bool.{true, false}
+use mathlib.Core.Bool.{Bool, true, false}
 use mathlib.Core.List.{List, [], _++_}
 use mathlib.Core.Option.{Option, none, some}
 use Prim.Native.Nat.{ℕ, _≤_, _<_}
@@ -43,15 +43,15 @@ pub record Reads (p : Parse) (text : List ℕ) : Type 0 where
   pub midway : p .spoilt ≡ false → Midway p text
   pub spoilt : p .spoilt ≡ true → (rest : List ℕ) → numbersOf (wordsOf (text ++ rest)) ≡ none
 
--- the numbers of a text that 9 doesn't turn back
-pub record Given (numbers text : List ℕ) : Type 0 where
+-- the numbers of a text that 9 doesn't turn back, under the rule of how many there are
+pub record Given (right : List ℕ → Bool) (numbers text : List ℕ) : Type 0 where
   pub ns : List ℕ
-  pub is : readText text ≡ some ns
+  pub is : readText right text ≡ some ns
   pub keeps : Keeps numbers ns
 
 -- what the end of a text says
-pub record Ends (r : Input) (text : List ℕ) : Type 0 where
-  pub given : r .fits ≡ true → Given (r .numbers) text
-  pub refused : r .fits ≡ false → readText text ≡ none
+pub record Ends (right : List ℕ → Bool) (r : Input) (text : List ℕ) : Type 0 where
+  pub given : r .fits ≡ true → Given right (r .numbers) text
+  pub refused : r .fits ≡ false → readText right text ≡ none
   -- 01, Turned back: an array handed back by value holds only zeros
   pub zeros : r .fits ≡ false → r .numbers ≡ replicate kept 0

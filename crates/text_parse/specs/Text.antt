@@ -62,17 +62,20 @@ numbersOf [] = some []
 numbersOf (word ∷ words) = cond (isNumber word) (before (valueOf word) (numbersOf words)) none
 
 -- 01, Turned back, 9: exactly 19 + 16 × (first number) of them
-unfoldable pub rightMany : List ℕ → Bool
-rightMany [] = false
-rightMany (n ∷ ns) = eqb (length (n ∷ ns)) (19 + 16 * n)
+unfoldable pub listingMany : List ℕ → Bool
+listingMany [] = false
+listingMany (n ∷ ns) = eqb (length (n ∷ ns)) (19 + 16 * n)
+
+-- 02, 2.2, Errors: 9 unless the program gets five such numbers
+unfoldable pub loadMany : List ℕ → Bool
+loadMany ns = eqb (length ns) 5
 
 -- numbers that are right many, none of others
-unfoldable pub ifRight : Option (List ℕ) → Option (List ℕ)
-unfolding rightMany
-ifRight none = none
-ifRight (some ns) = cond (rightMany ns) (some ns) none
+unfoldable pub ifMany : (List ℕ → Bool) → Option (List ℕ) → Option (List ℕ)
+ifMany right none = none
+ifMany right (some ns) = cond (right ns) (some ns) none
 
 -- 01, Turned back, 9: the numbers of a text that isn't turned back, none of one that is
-unfoldable pub readText : List ℕ → Option (List ℕ)
-unfolding wordsOf numbersOf ifRight
-readText text = ifRight (numbersOf (wordsOf text))
+unfoldable pub readText : (List ℕ → Bool) → List ℕ → Option (List ℕ)
+unfolding wordsOf numbersOf ifMany
+readText right text = ifMany right (numbersOf (wordsOf text))

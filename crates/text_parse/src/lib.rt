@@ -1,13 +1,13 @@
-// The listing's input: unsigned decimals out of a text that comes in parts of any size.
+// The input of the listing and of the test load: unsigned decimals out of a text that comes in parts of any size.
 ghost use mathlib.Core.Path.{_≡_};
 ghost use mathlib.Core.Bool.{true, false};
 ghost use mathlib.Core.List.{List, [], _++_};
 ghost use Prim.Native.Nat.{ℕ, _+_, _*_, _<_, _^_};
 ghost use lib.Dec.{eqb};
 ghost use lib.ListN.{length};
-ghost use Rattle.text_parse.specs.Text.{isParting, isDigit};
+ghost use Rattle.text_parse.specs.Text.{isParting, isDigit, listingMany, loadMany};
 ghost use Rattle.text_parse.specs.Reading.{Reads, Ends};
-ghost use Rattle.text_parse.specs.Steps.{Fed, Parted};
+ghost use Rattle.text_parse.specs.Steps.{Fed, Parted, AtEnd, answered};
 
 // The numbers that are kept: those of six variables.
 pub const NUMBERS_MAX: usize = 115;
@@ -16,6 +16,9 @@ pub const NUMBERS_MAX: usize = 115;
 const NUMBERS_LEAST: u64 = 19;
 
 const NUMBERS_MORE: u64 = 16;
+
+// The numbers of a test load's text.
+const LOAD_NUMBERS: u64 = 5;
 
 // The largest value that a number may have, and the largest that may get another digit.
 const VALUE_MAX: u64 = 18446744073709551615;
@@ -174,26 +177,48 @@ fn is_right(count: u64, first: u64) -> bool
     more / NUMBERS_MORE == first
 }
 
-// The text is at its end: whether refusal 9 lets it through, and its numbers.
-pub fn finish(p: Parse) -> Input
-    ensures { λ r. ⌜ ((text : List ℕ) → length text + 1 < 2 ^ 64 → Reads p text → Ends r text) ⌝ }
+// The text is at its end, and so is a number that is begun.
+fn end_text(p: Parse) -> Parse
+    ensures { λ r. ⌜ AtEnd p r ⌝ }
 {
     if p.spoilt {
+        return p;
+    }
+    end_number(p)
+}
+
+// The numbers, where there are right many of them and the text isn't spoilt.
+fn if_many(q: Parse, right: bool) -> Input
+    ensures { λ r. ⌜ r ≡ answered q right ⌝ }
+{
+    if q.spoilt || !right {
         return Input {
             fits: false,
             numbers: [0; NUMBERS_MAX],
         };
     }
-    let q = end_number(p);
     let numbers = q.numbers;
-    if is_right(q.count, numbers[0]) {
-        return Input {
-            fits: true,
-            numbers,
-        };
-    }
     Input {
-        fits: false,
-        numbers: [0; NUMBERS_MAX],
+        fits: true,
+        numbers,
     }
+}
+
+// The text is at its end: whether the listing's refusal 9 lets it through, and its numbers.
+pub fn finish(p: Parse) -> Input
+    ensures { λ r. ⌜ ((text : List ℕ) → length text + 1 < 2 ^ 64 → Reads p text → Ends listingMany r text) ⌝ }
+{
+    let q = end_text(p);
+    let numbers = q.numbers;
+    let right = is_right(q.count, numbers[0]);
+    if_many(q, right)
+}
+
+// The same for the test load's refusal 9.
+pub fn finish_load(p: Parse) -> Input
+    ensures { λ r. ⌜ ((text : List ℕ) → length text + 1 < 2 ^ 64 → Reads p text → Ends loadMany r text) ⌝ }
+{
+    let q = end_text(p);
+    let right = q.count == LOAD_NUMBERS;
+    if_many(q, right)
 }
