@@ -47,10 +47,11 @@ tokenMax = 21
 abbrev pub nextMax : ℕ
 nextMax = 22
 
--- 01, From heap ..: an atom has at most 6 tokens; the line of a formula, and both lines of an atom
-abbrev pub tokensMax : ℕ
-tokensMax = 6
+-- the line of a refusal
+abbrev pub refusalMax : ℕ
+refusalMax = 29
 
+-- 01, From heap ..: an atom has at most 6 tokens; the line of its formula, and both its lines
 abbrev pub formulaMax : ℕ
 formulaMax = 133
 

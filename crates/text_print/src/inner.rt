@@ -7,7 +7,7 @@ ghost use Prim.Native.Nat.{_+_, _*_, _≤_};
 ghost use mathlib.Core.List.{_++_};
 ghost use lib.ListN.{length};
 ghost use Rattle.text_print.specs.Text.{refusedLine};
-ghost use Rattle.text_print.specs.Printing.{Wrote, textMax, atomMax, Stored, Shown, Printed, linesText, numbersAt, formulaAt};
+ghost use Rattle.text_print.specs.Printing.{Wrote, textMax, refusalMax, atomMax, Stored, Shown, Printed, linesText, numbersAt, formulaAt};
 
 // Writes the listing of n atoms and m pairs, and answers the place after it.
 pub fn print_listing(
@@ -49,9 +49,9 @@ fn print_atoms(
 
 // Writes the line of a refusal, and answers the place after it.
 pub fn print_refusal(out: &mut [u8], number: u32) -> usize
-    requires { ⌜ textMax ≤ length (now out) ⌝ }
+    requires { ⌜ refusalMax ≤ length (now out) ⌝ }
     ensures { λ r. ⌜ Wrote (now (out .entry)) 0 (now (out .exit)) r (refusedLine number) ⌝ }
-    ensures { λ r. ⌜ r ≤ textMax ⌝ }
+    ensures { λ r. ⌜ r ≤ refusalMax ⌝ }
 {
     decimal::write_named(out, 0, b"refused ", number as u64, b'\n')
 }

@@ -26,7 +26,7 @@ same-length c = search needs
 returns-2 : tie.Need-returns-2
 returns-2 c = record {
   short = λ h. absurd (omega (arith, h, c .before .before .before .before .before .before .before .if1 .left));
-  written = λ h text few reads. laid _ _ (listing-nine text (c .before .before .before .before .before .before .finish .ensures text few reads .refused (not-true _ (c .before .before .before .before .if2 .taken)))) (c .before .before .print-refusal .ensures .0) (c .before .before .print-refusal .ensures .1);
+  written = λ h text few reads. laid _ _ (listing-nine text (c .before .before .before .before .before .before .finish .ensures text few reads .refused (not-true _ (c .before .before .before .before .if2 .taken)))) (c .before .before .print-refusal .ensures .0) (omega (arith, c .before .before .print-refusal .ensures .1));
 }
 
 refusal-of-requires : tie.Need-refusal-of-requires
@@ -44,7 +44,7 @@ returns-3 c = record {
   written = λ h text few reads.
       laid _ _ (given-refused text _ (c .before .before .before .before .before .before .before .before .before .finish .ensures text few reads .given (not-false _ (c .before .before .before .before .before .before .before .if2 .left))) _ (c .before .before .before .before .before .refusal-of .ensures) (omega (arith, c .before .before .before .before .if3 .taken)))
       (c .before .before .print-refusal2 .ensures .0)
-      (c .before .before .print-refusal2 .ensures .1);
+      (omega (arith, c .before .before .print-refusal2 .ensures .1));
 }
 
 list-numbers-requires : tie.Need-list-numbers-requires

@@ -9,7 +9,7 @@ ghost use lib.ListN.{length};
 ghost use Rattle.expr.specs.declared.Token.the-variants.{Binary};
 ghost use Rattle.expr.specs.Formula.{tokens};
 ghost use Rattle.text_print.specs.Text.{decimal, tokenText, formulaLine};
-ghost use Rattle.text_print.specs.Printing.{Wrote, tokenMax, nextMax, formulaMax, tokensMax, Stored, linesText, nextText, formulaAt};
+ghost use Rattle.text_print.specs.Printing.{Wrote, tokenMax, nextMax, formulaMax, Stored, linesText, nextText, formulaAt};
 
 // The token places of an atom in the lent arrays.
 const TOKENS: usize = 6;
@@ -40,10 +40,10 @@ pub fn print_formulas(
 }
 
 // The first `count` tokens.
-fn print_formula(out: &mut [u8], at: usize, ops: &[u8], operands: &[u64], count: usize) -> usize
-    requires { ⌜ (at + formulaMax ≤ length (now out)) × (count ≤ tokensMax) ⌝ }
+pub fn print_formula(out: &mut [u8], at: usize, ops: &[u8], operands: &[u64], count: usize) -> usize
+    requires { ⌜ at + nextMax * count + 1 ≤ length (now out) ⌝ }
     ensures { λ r. ⌜ Wrote (now (out .entry)) at (now (out .exit)) r (formulaLine (tokens count (now (ops .entry)) (now (operands .entry)))) ⌝ }
-    ensures { λ r. ⌜ r ≤ at + formulaMax ⌝ }
+    ensures { λ r. ⌜ r ≤ at + nextMax * count + 1 ⌝ }
 {
     let mut p = at;
     let mut i: usize = 0;

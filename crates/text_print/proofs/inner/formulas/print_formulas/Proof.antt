@@ -59,7 +59,7 @@ part-print-formula-end-2 : tie.Need-part-print-formula-end-2 Inv-loop μ-loop
 part-print-formula-end-2 c = search needs
 
 print-formula-requires : tie.Need-print-formula-requires Inv-loop μ-loop
-print-formula-requires c κs = (search needs, c .before .before .before .before .before .before .before .before .before .before .pre .1 .short (c .before .before .before .before .before .loop .k) (search needs))
+print-formula-requires c κs = omega (arith, c .before .before .before .before .before .before .before .before .before .before .pre .1 .short (c .before .before .before .before .before .loop .k) (search needs))
 
 add-k : tie.Need-add-k Inv-loop μ-loop
 add-k c = search needs
@@ -68,12 +68,15 @@ loop-less : tie.Need-loop-less Inv-loop μ-loop
 loop-less c = search needs
 
 loop-again : tie.Need-loop-again Inv-loop μ-loop
-loop-again c = let a = c .before .before .before .before .before .before .before .before .before .before .before .before .before .args in (
-  search needs,
-  search needs,
-  search needs,
-  line-more (formulaAt (a .lengths .now) (a .ops .now) (a .operands .now)) (c .before .before .before .before .before .before .before .before .loop .k) (c .before .before .before .before .before .before .before .before .loop .inv .3) (reads (formula-at (a .lengths .now) (a .ops .now) (a .operands .now) (c .before .before .before .before .before .before .before .before .loop .k)) (c .before .before .print-formula .ensures .0)),
-)
+loop-again c = let h = c .before .before .before .before .before .before .before .before in
+    let s = h .before .before .before .before .before in
+    let a = s .args in
+    let k = h .loop .k in (
+      search needs,
+      search needs,
+      omega (arith, c .before .before .print-formula .ensures .1, s .pre .1 .short k (search needs)),
+      line-more (formulaAt (a .lengths .now) (a .ops .now) (a .operands .now)) k (h .loop .inv .3) (reads (formula-at (a .lengths .now) (a .ops .now) (a .operands .now) k) (c .before .before .print-formula .ensures .0)),
+    )
 
 same-length : tie.Need-same-length Inv-loop μ-loop
 same-length c = search needs
