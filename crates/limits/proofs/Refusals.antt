@@ -43,6 +43,10 @@ within low high n h = go (le-or-lt low n) (le-or-lt n high)
     go (inl a) (inr b) = absurd (true-not-false (simp (le-ltb n low a, lt-ltb high n b) at h))
     go (inr a) b = absurd (true-not-false (simp (lt-ltb n low a) at h))
 
+-- and the other way
+pub inside : (low high n : ℕ) → low ≤ n → n ≤ high → outsideOf low high n ≡ false
+inside low high n h l = or-later (le-ltb n low h) (le-ltb high n l)
+
 -- ---- what is known where nothing is refused
 -- a test that did not refuse, and the rest of the chain
 pub passed : (b : Bool) (number rest : ℕ) → 0 < number → refuse b number rest ≡ 0 → (b ≡ false) × (rest ≡ 0)

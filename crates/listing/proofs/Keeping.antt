@@ -1,13 +1,13 @@
 -- Laws of the kept numbers: they ask for what the numbers of the text ask for. Assumes nothing.
 use mathlib.Core.Path.{_≡_, refl, sym, ap, ap₂, _∙_}
 use mathlib.Core.Logic.{inl, inr}
-use mathlib.Core.Bool.{Bool, true, false, cond, _||_}
+use mathlib.Core.Bool.{true, _||_}
 use mathlib.Core.List.{List, [], _∷_, map}
 use mathlib.Core.Option.{none, some}
 use Prim.Native.Nat.{ℕ, zero, suc, _+_, _*_, _^_, _≤_, _<_}
 use native.Mathlib.Nat.{mul-suc, mul-le-mul-left}
 use native.Mathlib.Omega.{arith}
-use borrow.Author.Tests.{lt-ltb, le-ltb, eqb-true}
+use borrow.Author.Tests.{eqb-true}
 use lib.Dec.{ltb}
 use lib.ListN.{length, take, drop, length-drop}
 use lib.Seq.{length-take-le, getD-take, getD-drop, ext-getD}
@@ -26,8 +26,9 @@ use Rattle.text_parse.proofs.Rules.{right-many}
 use Rattle.text_print.specs.Text.{refusedLine, listingOf}
 use Rattle.text_print.specs.Printing.{Wrote, textMax}
 use Rattle.text_print.proofs.Decimals.{reads}
+use Rattle.text_print.proofs.Answers.{answer-nine, answer-refused, answer-text}
 use Rattle.listing.specs.declared.ListingAnswer.the-variants.{Written}
-use Rattle.listing.specs.Listing.{countOf, widthOf, limitOf, pointOf, pointsOf, targetOf, numbersRefusal, bankFor, textFor, textOf, listing, Laid}
+use Rattle.listing.specs.Listing.{countOf, widthOf, limitOf, pointOf, pointsOf, targetOf, numbersRefusal, bankFor, textFor, listing, Laid}
 use Rattle.listing.specs.Steps.{pointFrom, bankIndex}
 use Rattle.listing.proofs.Refusing.{number-1, none-refused}
 
@@ -119,23 +120,9 @@ module _ (numbers ns : List ℕ) (keeps : Keeps numbers ns) (right : length ns �
   ]
 
 -- ---- the text
-module _ (text : List ℕ) where
-  pub listing-nine : readText listingMany text ≡ none → refusedLine 9 ≡ listing text
-  unfolding listing textOf
-  listing-nine e = sym (ap textOf e)
-
-  module _ (ns : List ℕ) (e : readText listingMany text ≡ some ns) where
-    listing-refused : (n : ℕ) → n ≡ numbersRefusal ns → 0 < n → refusedLine n ≡ listing text
-    unfolding listing textOf
-    listing-refused n f h =
-        let t : ltb 0 (numbersRefusal ns) ≡ true = lt-ltb 0 (numbersRefusal ns) (omega (arith, f, h)) in
-        ap refusedLine f ∙ sym (ap (λ (b : Bool). cond b (refusedLine (numbersRefusal ns)) (textFor ns)) t) ∙ sym (ap textOf e)
-
-    listing-text : numbersRefusal ns ≡ 0 → textFor ns ≡ listing text
-    unfolding listing textOf
-    listing-text f =
-        let t : ltb 0 (numbersRefusal ns) ≡ false = le-ltb 0 (numbersRefusal ns) (omega (arith, f)) in
-        sym (ap (λ (b : Bool). cond b (refusedLine (numbersRefusal ns)) (textFor ns)) t) ∙ sym (ap textOf e)
+pub listing-nine : (text : List ℕ) → readText listingMany text ≡ none → refusedLine 9 ≡ listing text
+unfolding listing
+listing-nine text e = answer-nine numbersRefusal textFor (readText listingMany text) e
 
 -- what is written from the buffer's start on
 pub laid : (xs ys : List ℕ) {out out′ : List ℕ} {r : ℕ} → xs ≡ ys → Wrote out 0 out′ r xs → r ≤ textMax → Laid out out′ (Written r) ys
@@ -154,10 +141,12 @@ module _ (text numbers : List ℕ) (given : Given listingMany numbers text) wher
   kept = refusal-kept numbers (given .ns) (given .keeps) (many-read text (given .ns) (given .is))
 
   pub given-refused : (n : ℕ) → n ≡ numbersRefusal numbers → 0 < n → refusedLine n ≡ listing text
-  given-refused n e h = listing-refused text (given .ns) (given .is) n (e ∙ kept) h
+  unfolding listing
+  given-refused n e h = answer-refused numbersRefusal textFor (readText listingMany text) (given .ns) (given .is) n (e ∙ kept) h
 
   pub given-text : numbersRefusal numbers ≡ 0 → textFor numbers ≡ listing text
+  unfolding listing
   given-text e =
       let none : numbersRefusal (given .ns) ≡ 0 = sym kept ∙ e in
       text-kept numbers (given .ns) (given .keeps) (many-read text (given .ns) (given .is)) (none-refused (given .ns) none .few)
-      ∙ listing-text text (given .ns) (given .is) none
+      ∙ answer-text numbersRefusal textFor (readText listingMany text) (given .ns) (given .is) none

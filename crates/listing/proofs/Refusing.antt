@@ -4,20 +4,16 @@ use mathlib.Core.Bool.{true, false, _||_}
 use mathlib.Core.List.{List}
 use Prim.Native.Nat.{ℕ, _*_, _^_, _≤_}
 use native.Mathlib.Omega.{arith}
-use borrow.Author.Tests.{le-ltb, ltb-false}
+use borrow.Author.Tests.{ltb-false}
 use lib.Dec.{ltb}
-use Rattle.limits.specs.Refusal.{refuse, outsideOf, badCount, badWidth}
-use Rattle.limits.proofs.Refusals.{refused-here, refused-later, or-later, within, passed}
+use Rattle.limits.specs.Refusal.{refuse, badCount, badWidth}
+use Rattle.limits.proofs.Refusals.{refused-here, refused-later, inside, within, passed}
 use Rattle.probe_points.specs.declared.Point.{Point}
 use Rattle.bank.specs.declared.Sizes.{Sizes}
 use Rattle.row_lent.specs.Range.{reaches}
 use Rattle.bank.specs.Build.{pointsReach, bankRefusal}
 use Rattle.listing.specs.Listing.{countOf, widthOf, limitOf, pointsOf, targetOf, numbersRefusal}
 use Rattle.listing.specs.Steps.{InRange, reachRefusal}
-
--- a number within its range
-inside : (low high n : ℕ) → low ≤ n → n ≤ high → outsideOf low high n ≡ false
-inside low high n h l = or-later (le-ltb n low h) (le-ltb high n l)
 
 -- the arrays of a bank are long enough
 abbrev full : Sizes

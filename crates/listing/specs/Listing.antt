@@ -1,8 +1,7 @@
 -- What the listing program writes of a text. Assumes nothing.
 use mathlib.Core.Path.{_≡_}
-use mathlib.Core.Bool.{cond, _||_}
+use mathlib.Core.Bool.{_||_}
 use mathlib.Core.List.{List, map}
-use mathlib.Core.Option.{Option, none, some}
 use Prim.Native.Nat.{ℕ, _+_, _*_, _^_, _≤_, _<_}
 use lib.Dec.{ltb}
 use lib.ListN.{length, getD, take, drop}
@@ -18,7 +17,7 @@ use Rattle.bank.specs.Build.{pointsReach}
 use Rattle.text_parse.specs.declared.Parse.{Parse}
 use Rattle.text_parse.specs.Text.{listingMany, readText}
 use Rattle.text_parse.specs.Reading.{Reads}
-use Rattle.text_print.specs.Text.{listingOf, refusedLine}
+use Rattle.text_print.specs.Text.{listingOf, answerOf}
 use Rattle.text_print.specs.Printing.{Wrote, textMax}
 use Rattle.listing.specs.declared.ListingAnswer.{ListingAnswer}
 use Rattle.listing.specs.declared.ListingAnswer.the-variants.{Written, Refused}
@@ -65,16 +64,10 @@ unfoldable pub textFor : List ℕ → List ℕ
 unfolding bankFor indexOf listingOf
 textFor ns = listingOf (bankFor ns) (indexOf (widthOf ns) (limitOf ns) allGates (map (λ (a : Atom). a .row) (bankFor ns)))
 
--- 01, Turned back: 9 precedes all
-unfoldable pub textOf : Option (List ℕ) → List ℕ
-unfolding numbersRefusal textFor refusedLine
-textOf none = refusedLine 9
-textOf (some ns) = cond (ltb 0 (numbersRefusal ns)) (refusedLine (numbersRefusal ns)) (textFor ns)
-
 -- 01, Listing program: what is written of what is read
 unfoldable pub listing : List ℕ → List ℕ
-unfolding textOf listingMany readText
-listing text = textOf (readText listingMany text)
+unfolding answerOf numbersRefusal textFor listingMany readText
+listing text = answerOf numbersRefusal textFor (readText listingMany text)
 
 -- ---- the call
 -- what each case of `ListingAnswer` says: its refusal, or how long the text is that stands in the buffer

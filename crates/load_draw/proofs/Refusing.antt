@@ -4,11 +4,11 @@ use mathlib.Core.Bool.{Bool, true, false, not, _&&_}
 use mathlib.Core.List.{List}
 use Prim.Native.Nat.{ℕ, _≤_}
 use native.Mathlib.Omega.{arith}
-use borrow.Author.Tests.{ltb-false}
+use borrow.Author.Tests.{ltb-false, le-ltb}
 use lib.Dec.{ltb}
 use lib.ListN.{length}
 use Rattle.limits.specs.Refusal.{refuse, badCount, badWidth}
-use Rattle.limits.proofs.Refusals.{refused-here, refused-later, passed, within, neither}
+use Rattle.limits.proofs.Refusals.{refused-here, refused-later, or-later, passed, within, inside, neither}
 use Rattle.expr.specs.Answers.{tooShort}
 use Rattle.load_draw.specs.Draw.{badLimit, drawRefusal}
 use Rattle.load_draw.specs.Steps.{Ready}
@@ -59,6 +59,16 @@ module _ (nv w limit : ℕ) (ops operands : List ℕ) where
         ops-fit = ltb-false (length ops) limit (long .0);
         operands-fit = ltb-false (length operands) limit (long .1);
       }
+
+  -- and the other way
+  pub ready-none : Ready nv w limit ops operands → drawRefusal nv w limit ops operands ≡ 0
+  ready-none g =
+      sym
+      (refusal-none
+      (inside 1 6 nv (g .some) (g .few))
+      (inside 1 64 w (g .wide) (g .narrow))
+      (inside 1 64 limit (g .least) (g .most))
+      (or-later (le-ltb (length ops) limit (g .ops-fit)) (le-ltb (length operands) limit (g .operands-fit))))
 
 -- a smaller limit, in the same arrays
 pub ready-less : (nv w limit n : ℕ) (ops operands : List ℕ) → Ready nv w limit ops operands → 1 ≤ n → n ≤ limit → Ready nv w n ops operands

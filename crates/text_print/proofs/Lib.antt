@@ -1,3 +1,4 @@
 -- The laws of this crate.
 pub mod Decimals
 pub mod Listings
+pub mod Answers

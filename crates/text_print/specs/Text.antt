@@ -1,6 +1,7 @@
--- The text that the listing program writes, as bytes, from bank and index. Assumes nothing.
+-- The text that the listing program writes, as bytes, from bank and index; formulas and refusals are the load program's too. Assumes nothing.
 use mathlib.Core.Bool.{Bool, cond}
 use mathlib.Core.List.{List, [], _∷_, _++_, flatMap}
+use mathlib.Core.Option.{Option, none, some}
 use Prim.Native.Nat.{ℕ, zero, suc, _+_, _/_, _%_}
 use lib.Dec.{ltb}
 use lib.ListN.{length}
@@ -96,3 +97,9 @@ listingOf bank index =
 unfoldable pub refusedLine : ℕ → List ℕ
 unfolding decimal
 refusedLine number = refusedWord ++ field number 10
+
+-- 01, Turned back: 9 precedes all; then what is refused of the numbers, then the text of them. What a program writes of the numbers that it read, none where 9 applies
+unfoldable pub answerOf : (List ℕ → ℕ) → (List ℕ → List ℕ) → Option (List ℕ) → List ℕ
+unfolding refusedLine
+answerOf refusal write none = refusedLine 9
+answerOf refusal write (some ns) = cond (ltb 0 (refusal ns)) (refusedLine (refusal ns)) (write ns)
