@@ -1,6 +1,6 @@
 -- What one byte does to a reading, and what its end says: the words of the whole text are those done, the one begun, and those of the rest.
 -- Assumes nothing.
-use mathlib.Core.Path.{_≡_, refl, sym, ap, _∙_}
+use mathlib.Core.Path.{_≡_, refl, sym, ap, subst, _∙_}
 use mathlib.Core.Bool.{Bool, true, false, cond, _&&_, _||_, not, and-false}
 use mathlib.Core.List.{List, [], _∷_, _++_, append-nil}
 use mathlib.Core.Option.{Option, none, some}
@@ -17,7 +17,7 @@ use Rattle.text_parse.specs.declared.Parse.{Parse}
 use Rattle.text_parse.specs.declared.Input.{Input}
 use Rattle.text_parse.specs.Text.{isParting, isDigit, allDigits, valueOf, isNumber, withWord, wordsAfter, wordsOf, before, numbersOf, listingMany, loadMany, ifMany, readText}
 use Rattle.text_parse.specs.Reading.{kept, Keeps, ahead, Midway, Reads, Ends}
-use Rattle.text_parse.specs.Steps.{Fed, Parted, AtEnd, answered}
+use Rattle.text_parse.specs.Steps.{Fed, Kept, Parted, AtEnd, answered}
 use Rattle.text_parse.proofs.Words.{digits-snoc, value-snoc, spoils, after-parting, after-other, numbers-of, ahead-before, parted-end}
 
 -- ---- bytes
@@ -41,7 +41,7 @@ moved text b rest = ap (λ (l : List ℕ). numbersOf (wordsOf l)) (append-snoc t
 
 -- ---- the numbers kept
 -- one number more, where there is a place for it and where there is none
-pub keeps-set : (numbers done : List ℕ) (count value : ℕ) → count < kept → length done ≡ count → Keeps numbers done → Keeps (set numbers count value) (done ++ (value ∷ []))
+pub keeps-set : (numbers done : List ℕ) (count value : ℕ) → count < length numbers → length done ≡ count → Keeps numbers done → Keeps (set numbers count value) (done ++ (value ∷ []))
 keeps-set numbers done count value room long k =
     record {
       room = simp length-set (k .room);
@@ -59,11 +59,11 @@ keeps-set numbers done count value room long k =
           rw (getD-set-other numbers count i value 0 (λ e. omega (arith, after, e, long))) (k .rest i (omega (arith, after)));
     }
 
-pub keeps-full : (numbers done : List ℕ) (count value : ℕ) → kept ≤ count → length done ≡ count → Keeps numbers done → Keeps numbers (done ++ (value ∷ []))
+pub keeps-full : (numbers done : List ℕ) (count value : ℕ) → length numbers ≤ count → length done ≡ count → Keeps numbers done → Keeps numbers (done ++ (value ∷ []))
 keeps-full numbers done count value full long k =
     record {
       room = k .room;
-      is = λ i small below. k .is i small (omega arith) ∙ sym (List·getD-append done (value ∷ []) 0 i (omega arith));
+      is = λ i small below. k .is i small (omega (arith, k .room)) ∙ sym (List·getD-append done (value ∷ []) 0 i (omega (arith, k .room)));
       rest =
           λ i past.
           let after : length done + 1 ≤ i = omega (arith, simp length-append at past) in
@@ -171,7 +171,7 @@ longer p r b clean digit numbers count value within fine text small h =
 
 -- ---- a parting byte
 pub closed : (p r : Parse) → p .within ≡ true → p .spoilt ≡ false → p .value < 2 ^ 64
-    → ((done : List ℕ) → length done ≡ p .count → Keeps (p .numbers) done → Keeps (r .numbers) (done ++ (p .value ∷ [])))
+    → Kept (p .numbers) (p .count) (p .value) (r .numbers)
     → r .count ≡ (p .count + 1) % 2 ^ 64 → r .value ≡ 0 → r .within ≡ false → r .spoilt ≡ false → Parted p r
 unfolding allDigits valueOf
 closed p r within clean low keeps count value between fine =
@@ -254,7 +254,7 @@ all-done q text m none-begun =
     ∙ ap (λ (l : List ℕ). some l) (append-nil (m .done))
 
 -- a parting byte at the end changes no word, and after it all numbers are done
-pub at-end : (p q : Parse) → p .spoilt ≡ false → Parted p q → AtEnd p q
+at-end : (p q : Parse) → p .spoilt ≡ false → Parted p q → AtEnd p q
 at-end p q clean parted =
     record {
       counts =
@@ -268,6 +268,10 @@ at-end p q clean parted =
           };
       spoilt = λ e. absurd (false-true (sym (parted .clean) ∙ e));
     }
+
+pub at-end-of : {p q a b : Parse} → p ≡ a → q ≡ b → p .spoilt ≡ false → Parted a b → AtEnd p q
+at-end-of {p} {q} {a} {b} e f clean parted =
+    at-end p q clean (subst (λ (x : Parse). Parted x q) (sym e) (subst (λ (y : Parse). Parted a y) (sym f) parted))
 
 pub at-end-spoilt : (p : Parse) → p .spoilt ≡ true → AtEnd p p
 at-end-spoilt p bad =

@@ -7,7 +7,7 @@ ghost use lib.Dec.{eqb};
 ghost use lib.ListN.{length};
 ghost use Rattle.text_parse.specs.Text.{isParting, isDigit, listingMany, loadMany};
 ghost use Rattle.text_parse.specs.Reading.{Reads, Ends};
-ghost use Rattle.text_parse.specs.Steps.{Fed, Parted, AtEnd, answered};
+ghost use Rattle.text_parse.specs.Steps.{joined, Fed, Kept, Parted, AtEnd, answered};
 
 // The numbers that are kept: those of six variables.
 pub const NUMBERS_MAX: usize = 115;
@@ -29,6 +29,14 @@ const VALUE_TENTH: u64 = 1844674407370955161;
 // whether the text is spoilt: refusal 9 lets no text through that begins so. Its fields are private: every state comes from `begin` and `feed`, so it has read some text.
 pub struct Parse {
     numbers: [u64; 115],
+    count: u64,
+    value: u64,
+    within: bool,
+    spoilt: bool,
+}
+
+// The state but for the numbers that are kept: it goes by value from byte to byte, and the numbers stay in their place.
+struct Scan {
     count: u64,
     value: u64,
     within: bool,
@@ -78,45 +86,73 @@ fn is_digit(b: u8) -> bool
     b <= b'9'
 }
 
+// The state without its numbers, and with them again.
+fn without_numbers(p: Parse) -> Scan
+    ensures { λ r. ⌜ p ≡ joined (p .numbers) r ⌝ }
+{
+    Scan {
+        count: p.count,
+        value: p.value,
+        within: p.within,
+        spoilt: p.spoilt,
+    }
+}
+
+fn with_numbers(s: Scan, numbers: [u64; 115]) -> Parse
+    ensures { λ r. ⌜ r ≡ joined numbers s ⌝ }
+{
+    Parse {
+        numbers,
+        count: s.count,
+        value: s.value,
+        within: s.within,
+        spoilt: s.spoilt,
+    }
+}
+
 // Marks the state: no text that begins so is let through.
-fn spoil(mut p: Parse) -> Parse
+fn spoil(mut s: Scan) -> Scan
     ensures { λ r. ⌜ r .spoilt ≡ true ⌝ }
 {
-    p.spoilt = true;
-    p
+    s.spoilt = true;
+    s
 }
 
 // Another digit of a number.
-fn lengthen(mut p: Parse, b: u8) -> Parse
+fn lengthen(mut s: Scan, b: u8) -> Scan
     requires { ⌜ isDigit b ≡ true ⌝ }
-    ensures { λ r. ⌜ (p .spoilt ≡ false → Fed p b r) ⌝ }
+    ensures { λ r. ⌜ (s .spoilt ≡ false → (numbers : List ℕ) → Fed (joined numbers s) b (joined numbers r)) ⌝ }
 {
     let digit = (b - b'0') as u64;
-    if p.value > VALUE_TENTH {
-        return spoil(p);
+    if s.value > VALUE_TENTH {
+        return spoil(s);
     }
-    let shifted = p.value * 10;
+    let shifted = s.value * 10;
     if digit > VALUE_MAX - shifted {
-        return spoil(p);
+        return spoil(s);
     }
-    p.value = shifted + digit;
-    p.within = true;
-    p
+    s.value = shifted + digit;
+    s.within = true;
+    s
 }
 
-// Counts the number that is begun, and keeps it if there is a place. The count doesn't wrap in a text shorter than 2^64 bytes.
-fn close(p: Parse) -> Parse
-    requires { ⌜ (p .within ≡ true) × (p .spoilt ≡ false) ⌝ }
-    ensures { λ r. ⌜ Parted p r ⌝ }
+// Keeps a number as the one after the first `count`, if there is a place.
+fn keep(numbers: &mut [u64], count: u64, value: u64)
+    ensures { λ _. ⌜ Kept (now (numbers .entry)) count value (now (numbers .exit)) ⌝ }
 {
-    let mut numbers = p.numbers;
-    let count = p.count;
-    if count < NUMBERS_MAX as u64 {
-        numbers[count as usize] = p.value;
+    if count < numbers.len() as u64 {
+        numbers[count as usize] = value;
     }
-    Parse {
-        numbers,
-        count: std::num::wrapping_add_u64(count, 1),
+}
+
+// Counts the number that is begun, and keeps it. The count doesn't wrap in a text shorter than 2^64 bytes.
+fn close(numbers: &mut [u64], s: Scan) -> Scan
+    requires { ⌜ (s .within ≡ true) × (s .spoilt ≡ false) ⌝ }
+    ensures { λ r. ⌜ Parted (joined (now (numbers .entry)) s) (joined (now (numbers .exit)) r) ⌝ }
+{
+    keep(numbers, s.count, s.value);
+    Scan {
+        count: std::num::wrapping_add_u64(s.count, 1),
         value: 0,
         within: false,
         spoilt: false,
@@ -124,43 +160,44 @@ fn close(p: Parse) -> Parse
 }
 
 // A parting byte, or the end of the text: a number that is begun is at its end.
-fn end_number(p: Parse) -> Parse
-    requires { ⌜ p .spoilt ≡ false ⌝ }
-    ensures { λ r. ⌜ Parted p r ⌝ }
+fn end_number(numbers: &mut [u64], s: Scan) -> Scan
+    requires { ⌜ s .spoilt ≡ false ⌝ }
+    ensures { λ r. ⌜ Parted (joined (now (numbers .entry)) s) (joined (now (numbers .exit)) r) ⌝ }
 {
-    if p.within {
-        return close(p);
+    if s.within {
+        return close(numbers, s);
     }
-    p
+    s
 }
 
 // Reads a further byte.
-fn feed_byte(p: Parse, b: u8) -> Parse
-    ensures { λ r. ⌜ Fed p b r ⌝ }
+fn feed_byte(numbers: &mut [u64], s: Scan, b: u8) -> Scan
+    ensures { λ r. ⌜ Fed (joined (now (numbers .entry)) s) b (joined (now (numbers .exit)) r) ⌝ }
 {
-    if p.spoilt {
-        return p;
+    if s.spoilt {
+        return s;
     }
     if is_parting(b) {
-        return end_number(p);
+        return end_number(numbers, s);
     }
     if is_digit(b) {
-        return lengthen(p, b);
+        return lengthen(s, b);
     }
-    spoil(p)
+    spoil(s)
 }
 
 // Reads a further part of the text, which in all is shorter than 2^64 bytes.
 pub fn feed(p: Parse, part: &[u8]) -> Parse
     ensures { λ r. ⌜ ((text : List ℕ) → length text + length (now (part .entry)) < 2 ^ 64 → Reads p text → Reads r (text ++ now (part .entry))) ⌝ }
 {
-    let mut q = p;
+    let mut numbers = p.numbers;
+    let mut s = without_numbers(p);
     let mut i = 0;
     while i < part.len() {
-        q = feed_byte(q, part[i]);
+        s = feed_byte(&mut numbers, s, part[i]);
         i += 1;
     }
-    q
+    with_numbers(s, numbers)
 }
 
 // Whether there are 19 + 16 × first numbers; the product may not fit a word, so the test divides.
@@ -184,7 +221,9 @@ fn end_text(p: Parse) -> Parse
     if p.spoilt {
         return p;
     }
-    end_number(p)
+    let mut numbers = p.numbers;
+    let s = end_number(&mut numbers, without_numbers(p));
+    with_numbers(s, numbers)
 }
 
 // The numbers, where there are right many of them and the text isn't spoilt.

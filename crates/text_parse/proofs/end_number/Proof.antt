@@ -7,11 +7,14 @@ use Rattle.text_parse.proofs.end_number.Tie as tie
 close-requires : tie.Need-close-requires
 close-requires c κs = search needs
 
+same-length : tie.Need-same-length
+same-length c = search needs
+
 returns : tie.Need-returns
 returns c = search needs
 
 returns-2 : tie.Need-returns-2
-returns-2 c = passed _ (c .if1 .left) (c .before .pre)
+returns-2 c = passed _ (c .if1 .left) (c .before .before .pre)
 
 pub end-number-spec : {M : Type 1} → statement M
-end-number-spec = tie.close (tie.spec close-requires returns returns-2)
+end-number-spec = tie.close (tie.spec close-requires same-length returns returns-2)

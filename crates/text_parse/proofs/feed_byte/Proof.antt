@@ -6,7 +6,7 @@ use Rattle.text_parse.proofs.feed_byte.Statement.{statement}
 use Rattle.text_parse.proofs.feed_byte.Tie as tie
 
 returns : tie.Need-returns
-returns c = spoilt-stays _ (c .before .args .b) (c .if1 .taken)
+returns c = spoilt-stays _ (c .before .before .args .b) (c .if1 .taken)
 
 is-parting-requires : tie.Need-is-parting-requires
 is-parting-requires c κs = search needs
@@ -14,8 +14,14 @@ is-parting-requires c κs = search needs
 end-number-requires : tie.Need-end-number-requires
 end-number-requires c κs = search needs
 
+same-length : tie.Need-same-length
+same-length c = search needs
+
 returns-2 : tie.Need-returns-2
-returns-2 c = c .end-number .ensures .reads _ (sym (c .before .before .is-parting .ensures) ∙ c .before .if2 .taken)
+returns-2 c =
+    let ended = c .before .before in
+    let parting = ended .before .before in
+    ended .end-number .ensures .reads _ (sym (parting .before .is-parting .ensures) ∙ parting .if2 .taken)
 
 is-digit-requires : tie.Need-is-digit-requires
 is-digit-requires c κs = search needs
@@ -24,16 +30,21 @@ lengthen-requires : tie.Need-lengthen-requires
 lengthen-requires c κs = sym (c .before .is-digit .ensures) ∙ c .if3 .taken
 
 returns-3 : tie.Need-returns-3
-returns-3 c = c .lengthen .ensures (c .before .before .before .before .before .if1 .left)
+returns-3 c =
+    let e1 = c .before .before .before .before .before in
+    c .lengthen .ensures (e1 .if1 .left) (e1 .before .before .args .numbers .now)
 
 spoil-requires : tie.Need-spoil-requires
 spoil-requires c κs = search needs
 
 returns-4 : tie.Need-returns-4
 returns-4 c =
-    let other = sym (c .before .before .before .before .is-parting .ensures) ∙ c .before .before .before .if2 .left in
-    let letter = sym (c .before .before .is-digit .ensures) ∙ c .before .if3 .left in
-    spoilt-by-byte _ _ _ (c .before .before .before .before .before .if1 .left) (c .spoil .ensures) other letter
+    let e3 = c .before in
+    let e2 = e3 .before .before in
+    let e1 = e2 .before .before in
+    let other = sym (e2 .before .is-parting .ensures) ∙ e2 .if2 .left in
+    let letter = sym (e3 .before .is-digit .ensures) ∙ e3 .if3 .left in
+    spoilt-by-byte _ _ _ (e1 .if1 .left) (c .spoil .ensures) other letter
 
 pub feed-byte-spec : {M : Type 1} → statement M
 feed-byte-spec =
@@ -42,6 +53,7 @@ feed-byte-spec =
     returns
     is-parting-requires
     end-number-requires
+    same-length
     returns-2
     is-digit-requires
     lengthen-requires
