@@ -1,10 +1,10 @@
--- `list::write_text` is safe: the bytes lie in the buffer. Assumes nothing.
+-- `text_io::write_text` is safe: the bytes lie in the buffer. Assumes nothing.
 use mathlib.Core.Path.{sym}
 use native.Mathlib.Omega.{arith}
 use borrow.Author.Needs.{needs}
 use lib.Seq.{length-take-le}
-use Rattle.list.proofs.write_text.Statement.{statement}
-use Rattle.list.proofs.write_text.Tie as tie
+use Rattle.text_io.proofs.write_text.Statement.{statement}
+use Rattle.text_io.proofs.write_text.Tie as tie
 
 returns : tie.Need-returns
 returns c = search needs
@@ -18,14 +18,14 @@ slice-aggregate-write-all c =
 write-all-requires : tie.Need-write-all-requires
 write-all-requires c κs = search needs
 
+returns-2 : tie.Need-returns-2
+returns-2 c = search needs
+
 slice-aggregate-fail : tie.Need-slice-aggregate-fail
 slice-aggregate-fail c = search needs
 
 fail-requires : tie.Need-fail-requires
 fail-requires c κs = search needs
-
-returns-2 : tie.Need-returns-2
-returns-2 c = search needs
 
 returns-3 : tie.Need-returns-3
 returns-3 c = search needs
@@ -37,7 +37,7 @@ write-text-spec =
     returns
     slice-aggregate-write-all
     write-all-requires
+    returns-2
     slice-aggregate-fail
     fail-requires
-    returns-2
     returns-3)

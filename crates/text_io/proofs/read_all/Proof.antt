@@ -1,8 +1,8 @@
--- `list::read_all` is safe: the reads are counted. Assumes nothing.
+-- `text_io::read_all` is safe: the reads are counted. Assumes nothing.
 use Prim.Native.Nat.{_-_, _^_, _≤_}
 use borrow.Author.Needs.{needs}
-use Rattle.list.proofs.read_all.Statement.{statement}
-use Rattle.list.proofs.read_all.Tie as tie
+use Rattle.text_io.proofs.read_all.Statement.{statement}
+use Rattle.text_io.proofs.read_all.Tie as tie
 
 abbrev Inv-loop : tie.InvT-loop
 Inv-loop p₀ turns₀ p turns = turns ≤ 2 ^ 40
