@@ -194,7 +194,14 @@ pub fn feed(p: Parse, part: &[u8]) -> Parse
     let mut s = without_numbers(p);
     let mut i = 0;
     while i < part.len() {
-        s = feed_byte(&mut numbers, s, part[i]);
+        let t = feed_byte(&mut numbers, s, part[i]);
+        // field by field: a copy of the whole would take the unused bytes at its end through memory, ten cycles a byte
+        s = Scan {
+            count: t.count,
+            value: t.value,
+            within: t.within,
+            spoilt: t.spoilt,
+        };
         i += 1;
     }
     with_numbers(s, numbers)
