@@ -15,7 +15,7 @@ use Rattle.probe_points.specs.Points.{nextState, wordOf, drawn}
 use Rattle.expr.specs.declared.Token.{Token}
 use Rattle.expr.specs.Formula.{tokenOf, arity, opcodeOf, operandOf, tokens}
 use Rattle.expr.proofs.Tokens.{tokens-back}
-use Rattle.load_draw.specs.Draw.{drawnWord, takes, mayPick, pickedBy, tokenFrom, stateFrom, Drawn, ahead, restFrom, formulaFrom, drawnOr, laid, laidOr}
+use Rattle.load_draw.specs.Draw.{drawnWord, takes, mayPick, pickedBy, tokenFrom, stateFrom, Drawn, onto, restFrom, formulaFrom, drawnOr, laid, laidOr}
 use Rattle.load_draw.proofs.Picking.{picked-may, picked-below, may-takes, may-rest, can-most}
 
 -- ---- one token
@@ -144,14 +144,14 @@ module _ (nv w count state : ℕ) (ops₀ operands₀ : List ℕ) where
       abbrev rest : Drawn
       rest = restFrom nv w (count - (i + 1)) (depth - takes o + 1) (stateFrom o (nextState s))
 
-      more : restFrom nv w (count - i) depth s ≡ ahead t rest
+      more : restFrom nv w (count - i) depth s ≡ onto t rest
       unfolding restFrom
       more =
           let r : ℕ = count - (i + 1) in
           let same : pickedBy depth r (drawnWord s) ≡ o = ap (λ (n : ℕ). pickedBy depth n (drawnWord s)) (omega arith) ∙ sym e in
           let left : count - i ≡ suc (count - (i + 1)) = omega arith in
           ap (λ (n : ℕ). restFrom nv w n depth s) left
-          ∙ ap (λ (x : ℕ). ahead (tokenFrom nv w x (nextState s)) (restFrom nv w r (depth - takes x + 1) (stateFrom x (nextState s)))) same
+          ∙ ap (λ (x : ℕ). onto (tokenFrom nv w x (nextState s)) (restFrom nv w r (depth - takes x + 1) (stateFrom x (nextState s)))) same
 
       pub stage-next : (s′ depth′ : ℕ) (operands′ : List ℕ) → s′ ≡ stateFrom o (nextState s) → depth′ ≡ depth - takes o + 1 → operands′ ≡ set operands i (operandOf t)
           → i < length ops₀ → i < length operands₀ → Stage nv w count state ops₀ operands₀ (set ops i o) operands′ s′ depth′ (i + 1)

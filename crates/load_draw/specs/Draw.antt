@@ -61,8 +61,9 @@ pub record Drawn : Type 0 where
   pub form : List Token
   pub state : ℕ
 
-abbrev pub ahead : Token → Drawn → Drawn
-ahead t d = record { form = t ∷ d .form; state = d .state }
+-- a token before them
+abbrev pub onto : Token → Drawn → Drawn
+onto t d = record { form = t ∷ d .form; state = d .state }
 
 -- 02, 2.2: then, left to right. The last n tokens of a formula, with d values before them
 unfoldable pub restFrom : ℕ → ℕ → ℕ → ℕ → ℕ → Drawn
@@ -70,7 +71,7 @@ unfolding pickedBy tokenFrom stateFrom
 restFrom nv w zero d s = record { form = []; state = s }
 restFrom nv w (suc r) d s =
     let o : ℕ = pickedBy d r (drawnWord s) in
-    ahead (tokenFrom nv w o (nextState s)) (restFrom nv w r (d - takes o + 1) (stateFrom o (nextState s)))
+    onto (tokenFrom nv w o (nextState s)) (restFrom nv w r (d - takes o + 1) (stateFrom o (nextState s)))
 
 -- 02, 2.2: a length is 1 plus a draw modulo the limit
 unfoldable pub formulaFrom : ℕ → ℕ → ℕ → ℕ → Drawn
@@ -83,12 +84,18 @@ unfolding formulaFrom
 loadFrom nv w limit zero s = []
 loadFrom nv w limit (suc n) s = formulaFrom nv w limit s .form ∷ loadFrom nv w limit n (formulaFrom nv w limit s .state)
 
+-- the state after it
+unfoldable pub loadState : ℕ → ℕ → ℕ → ℕ → ℕ → ℕ
+unfolding formulaFrom
+loadState nv w limit zero s = s
+loadState nv w limit (suc n) s = loadState nv w limit n (formulaFrom nv w limit s .state)
+
 -- ---- the call
 -- 02, 2.2, Errors: 6 if the token limit isn't 1 to 64
 abbrev pub badLimit : ℕ → Bool
 badLimit limit = outsideOf 1 64 limit
 
--- 02, 2.2, Errors, beside 01's 1 and 2: 4 if a token array has fewer places than a limit of 1 to 64
+-- 02, 2.2, Errors, after 01's 1 and 2: 4 if a token array has fewer places than a limit of 1 to 64; 6
 unfoldable pub drawRefusal : ℕ → ℕ → ℕ → List ℕ → List ℕ → ℕ
 drawRefusal nv w limit ops operands =
     refuse (badCount nv) 1
@@ -107,3 +114,16 @@ laid xs old = xs ++ drop (length xs) old
 -- what stands in an array of opcodes or of operands: refused, what it held
 abbrev pub laidOr : ℕ → (Token → ℕ) → Drawn → List ℕ → List ℕ
 laidOr number part d old = unlessRefused number (laid (map part (d .form)) old) old
+
+-- a call's answer, and what it leaves in the arrays
+pub record Called : Type 0 where
+  pub answer : DrawnFormula
+  pub ops : List ℕ
+  pub operands : List ℕ
+
+abbrev pub called : ℕ → ℕ → ℕ → ℕ → List ℕ → List ℕ → Called
+called s nv w limit ops operands = record {
+  answer = drawnOr (drawRefusal nv w limit ops operands) s (formulaFrom nv w limit s);
+  ops = laidOr (drawRefusal nv w limit ops operands) opcodeOf (formulaFrom nv w limit s) ops;
+  operands = laidOr (drawRefusal nv w limit ops operands) operandOf (formulaFrom nv w limit s) operands;
+}

@@ -2,8 +2,7 @@
 pub mod inner;
 
 ghost use mathlib.Core.Path.{_≡_};
-ghost use Rattle.expr.specs.Formula.{opcodeOf, operandOf};
-ghost use Rattle.load_draw.specs.Draw.{formulaFrom, drawRefusal, drawnOr, laidOr};
+ghost use Rattle.load_draw.specs.Draw.{called};
 
 // How many tokens were drawn, and the state handed on; no token and the state as it was beside a refusal.
 pub struct DrawnFormula {
@@ -21,9 +20,9 @@ pub fn draw_formula(
     w: u32,
     limit: usize,
 ) -> DrawnFormula
-    ensures { λ r. ⌜ r ≡ drawnOr (drawRefusal nv w limit (now (ops .entry)) (now (operands .entry))) state (formulaFrom nv w limit state) ⌝ }
-    ensures { λ r. ⌜ now (ops .exit) ≡ laidOr (drawRefusal nv w limit (now (ops .entry)) (now (operands .entry))) opcodeOf (formulaFrom nv w limit state) (now (ops .entry)) ⌝ }
-    ensures { λ r. ⌜ now (operands .exit) ≡ laidOr (drawRefusal nv w limit (now (ops .entry)) (now (operands .entry))) operandOf (formulaFrom nv w limit state) (now (operands .entry)) ⌝ }
+    ensures { λ r. ⌜ r ≡ called state nv w limit (now (ops .entry)) (now (operands .entry)) .answer ⌝ }
+    ensures { λ r. ⌜ now (ops .exit) ≡ called state nv w limit (now (ops .entry)) (now (operands .entry)) .ops ⌝ }
+    ensures { λ r. ⌜ now (operands .exit) ≡ called state nv w limit (now (ops .entry)) (now (operands .entry)) .operands ⌝ }
 {
     let refusal = inner::draw_refusal(ops, operands, nv, w, limit);
     if refusal != 0 {

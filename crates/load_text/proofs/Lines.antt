@@ -1,43 +1,35 @@
 -- Laws of a load's lines: one line more, and line after line into a buffer. Assumes nothing.
 use mathlib.Core.Path.{_≡_, refl, sym, ap, ap₂, _∙_, subst}
 use mathlib.Core.Bool.{Bool, cond}
+use mathlib.Core.Logic.{_⊎_, inl, inr}
 use mathlib.Core.List.{List, [], _∷_, _++_, map, flatMap, append-assoc, append-nil}
-use Prim.Native.Nat.{ℕ, zero, suc, _+_, _-_, _*_, _≤_, _<_}
+use Prim.Native.Nat.{ℕ, zero, suc, _+_, _-_, _≤_, _<_}
 use native.Mathlib.Omega.{arith}
-use borrow.Author.Tests.{lt-ltb}
-use lib.Dec.{ltb}
+use borrow.Author.Tests.{lt-ltb, le-ltb}
 use lib.ListN.{length, length-append}
+use Rattle.limits.proofs.Refusals.{le-or-lt}
 use Rattle.expr.specs.declared.Token.{Token}
 use Rattle.expr.specs.Formula.{opcodeOf, operandOf, tokens}
-use Rattle.text_print.specs.Text.{tokensText, formulaLine, refusedLine}
+use Rattle.text_print.specs.Text.{formulaLine}
 use Rattle.text_print.specs.Printing.{Wrote}
 use Rattle.text_print.proofs.Decimals.{then, nothing, reads, wrote-length}
-use Rattle.load_draw.specs.Draw.{Drawn, formulaFrom, loadFrom, drawRefusal, laid}
+use Rattle.load_draw.specs.Draw.{Drawn, formulaFrom, loadFrom, laid}
 use Rattle.load_draw.specs.Steps.{Ready}
 use Rattle.load_draw.proofs.Drawing.{laid-reads}
-use Rattle.load_draw.proofs.Refusing.{ready-none}
 use Rattle.load_text.specs.declared.Load.{Load}
 use Rattle.load_text.specs.declared.LoadPart.{LoadPart}
 use Rattle.load_text.specs.Text.{linesFrom}
-use Rattle.load_text.specs.Writing.{owed, Fit, Owes, WroteSome}
-use Rattle.load_text.specs.Steps.{bareLoad, further, WroteLines}
+use Rattle.load_text.specs.Writing.{lineMax, further, Lines, after, linesIn, linesPart}
+use Rattle.load_text.specs.Steps.{Answers, WroteLines}
 
--- ---- lines
+-- ---- all lines
 pub lines-none : (nv w limit s : ℕ) → linesFrom nv w limit 0 s ≡ []
 unfolding linesFrom loadFrom flatMap
 lines-none nv w limit s = refl
 
-pub lines-more : (nv w limit n s : ℕ) → 0 < n → linesFrom nv w limit n s ≡ formulaLine (formulaFrom nv w limit s .form) ++ linesFrom nv w limit (n - 1) (formulaFrom nv w limit s .state)
+pub lines-more : (nv w limit n s : ℕ) → linesFrom nv w limit (suc n) s ≡ formulaLine (formulaFrom nv w limit s .form) ++ linesFrom nv w limit n (formulaFrom nv w limit s .state)
 unfolding linesFrom loadFrom flatMap
-lines-more nv w limit zero s h = absurd (omega arith)
-lines-more nv w limit (suc n) s h =
-    let e : n ≡ suc n - 1 = omega arith in
-    ap (λ (k : ℕ). formulaLine (formulaFrom nv w limit s .form) ++ linesFrom nv w limit k (formulaFrom nv w limit s .state)) e
-
--- a line isn't empty
-pub line-some : (ts : List Token) → 0 < length (formulaLine ts)
-unfolding formulaLine
-line-some ts = omega (arith, length-append (tokensText ts) (10 ∷ []))
+lines-more nv w limit n s = refl
 
 -- the line of what was drawn into arrays
 pub line-is : (ts : List Token) (count : ℕ) (ops operands ops′ operands′ : List ℕ) → count ≡ length ts → ops′ ≡ laid (map opcodeOf ts) ops → operands′ ≡ laid (map operandOf ts) operands
@@ -47,142 +39,111 @@ line-is ts count ops operands ops′ operands′ n p q =
     ∙ ap₂ (λ (a b : List ℕ). formulaLine (tokens (length ts) a b)) p q
     ∙ ap formulaLine (laid-reads ts ops operands)
 
+-- ---- the lines that there is room for
+module _ (nv w limit : ℕ) where
+  abbrev line : ℕ → List ℕ
+  line s = formulaLine (formulaFrom nv w limit s .form)
+
+  -- no line is left, or no room
+  pub in-none : (room n s : ℕ) → n ≡ 0 → linesIn nv w limit room n s ≡ record { text = []; left = n; state = s }
+  unfolding linesIn
+  in-none room zero s e = refl
+  in-none room (suc n) s e = absurd (omega (arith, e))
+
+  pub in-short : (room n s : ℕ) → room < lineMax → linesIn nv w limit room n s ≡ record { text = []; left = n; state = s }
+  unfolding linesIn
+  in-short room zero s h = refl
+  in-short room (suc n) s h =
+      ap (λ (b : Bool). cond b (record { text = []; left = suc n; state = s }) (after (line s) (linesIn nv w limit (room - length (line s)) n (formulaFrom nv w limit s .state)))) (lt-ltb room lineMax h)
+
+  -- one more
+  pub in-more : (room n s : ℕ) → lineMax ≤ room → 0 < n → linesIn nv w limit room n s ≡ after (line s) (linesIn nv w limit (room - length (line s)) (n - 1) (formulaFrom nv w limit s .state))
+  unfolding linesIn
+  in-more room zero s h some = absurd (omega (arith, some))
+  in-more room (suc n) s h some =
+      let e : n ≡ suc n - 1 = omega arith in
+      ap (λ (b : Bool). cond b (record { text = []; left = suc n; state = s }) (after (line s) (linesIn nv w limit (room - length (line s)) n (formulaFrom nv w limit s .state)))) (le-ltb room lineMax h)
+      ∙ ap (λ (k : ℕ). after (line s) (linesIn nv w limit (room - length (line s)) k (formulaFrom nv w limit s .state))) e
+
+  after-after : (xs ys : List ℕ) (f : Lines) → after xs (after ys f) ≡ after (xs ++ ys) f
+  after-after xs ys f = ap (λ (l : List ℕ). record { text = l; left = f .left; state = f .state }) (sym (append-assoc xs ys (f .text)))
+
 -- ---- line after line
--- the lines of the load l₀ are those in the buffer up to place p, and then those of l
-pub record Going (l₀ : Load) (out₀ out ops operands : List ℕ) (l : Load) (p : ℕ) : Type 0 where
+-- the lines for which there is room are those in the buffer up to place p, and then those for which there still is
+pub record Going (l : Load) (out₀ out ops operands : List ℕ) (state left p : ℕ) : Type 0 where
   pub long : length out ≡ length out₀
   pub at : p ≤ length out₀
   pub ready : Ready (l .nv) (l .w) (l .limit) ops operands
-  pub is : l ≡ further l₀ (l .left) (l .state)
-  pub least : l .left ≤ l₀ .left
-  pub fewer : 0 < p → l .left < l₀ .left
   pub part : List ℕ
   pub wrote : Wrote out₀ 0 out p part
-  pub splits : linesFrom (l₀ .nv) (l₀ .w) (l₀ .limit) (l₀ .left) (l₀ .state) ≡ part ++ linesFrom (l₀ .nv) (l₀ .w) (l₀ .limit) (l .left) (l .state)
+  pub fill : linesIn (l .nv) (l .w) (l .limit) (length out₀) (l .left) (l .state) ≡ after part (linesIn (l .nv) (l .w) (l .limit) (length out₀ - p) left state)
 
-pub going-start : (l : Load) (out ops operands : List ℕ) → l .refusal ≡ 0 → Ready (l .nv) (l .w) (l .limit) ops operands → Going l out out ops operands l 0
-going-start l out ops operands e g = record {
-  long = refl;
-  at = omega arith;
-  ready = g;
-  is = λ i. record { refusal = e i; state = l .state; nv = l .nv; w = l .w; limit = l .limit; left = l .left };
-  least = omega arith;
-  fewer = λ h. absurd (omega (arith, h));
-  part = [];
-  wrote = nothing;
-  splits = refl;
-}
-
-module _ (l₀ : Load) (out₀ out ops operands : List ℕ) (l : Load) (p : ℕ) (g : Going l₀ out₀ out ops operands l p) where
-  -- one line more
-  module _ (out′ ops′ operands′ : List ℕ) (r : LoadPart) (some : 0 < l .left)
-      (wrote : Wrote out p out′ (r .length) (formulaLine (formulaFrom (l .nv) (l .w) (l .limit) (l .state) .form)))
-      (load : r .load ≡ further l (l .left - 1) (formulaFrom (l .nv) (l .w) (l .limit) (l .state) .state)) where
-    abbrev d : Drawn
-    d = formulaFrom (l₀ .nv) (l₀ .w) (l₀ .limit) (l .state)
-
-    same : formulaFrom (l .nv) (l .w) (l .limit) (l .state) ≡ d
-    same = ap (λ (k : Load). formulaFrom (k .nv) (k .w) (k .limit) (l .state)) (g .is)
-
-    next : r .load ≡ further l₀ (l .left - 1) (d .state)
-    next = load ∙ ap₂ (λ (k : Load) (x : Drawn). further k (l .left - 1) (x .state)) (g .is) same
-
-    pub going-next : Ready (l .nv) (l .w) (l .limit) ops′ operands′ → r .length ≤ length out₀ → Going l₀ out₀ out′ ops′ operands′ (r .load) (r .length)
-    going-next ready fits = record {
-      long = wrote-length wrote ∙ g .long;
-      at = fits;
-      ready = subst (λ (k : Load). Ready (k .nv) (k .w) (k .limit) ops′ operands′) (sym load) ready;
-      is = next ∙ ap₂ (λ (n s : ℕ). further l₀ n s) (sym left) (sym state);
-      least = omega (arith, g .least, left);
-      fewer = λ h. omega (arith, g .least, left);
-      part = g .part ++ formulaLine (d .form);
-      wrote = reads (ap (λ (x : Drawn). g .part ++ formulaLine (x .form)) same) (then (g .wrote) wrote);
-      splits = g .splits
-          ∙ ap (λ (k : List ℕ). g .part ++ k) (lines-more (l₀ .nv) (l₀ .w) (l₀ .limit) (l .left) (l .state) some)
-          ∙ sym (append-assoc (g .part) (formulaLine (d .form)) (linesFrom (l₀ .nv) (l₀ .w) (l₀ .limit) (l .left - 1) (d .state)))
-          ∙ ap₂ (λ (n s : ℕ). (g .part ++ formulaLine (d .form)) ++ linesFrom (l₀ .nv) (l₀ .w) (l₀ .limit) n s) (sym left) (sym state);
-    }
-      where
-        left : r .load .left ≡ l .left - 1
-        left = ap (λ (k : Load). k .left) next
-
-        state : r .load .state ≡ d .state
-        state = ap (λ (k : Load). k .state) next
-
-  -- and the end of it
-  pub going-ends : WroteLines l₀ out₀ out (record { refusal = 0; length = p; load = l })
-  going-ends = record {
-    part = g .part;
-    left = l .left;
-    state = l .state;
-    splits = g .splits;
-    wrote = g .wrote;
-    fits = g .at;
-    load = g .is;
+module _ (l : Load) (out₀ : List ℕ) where
+  pub going-start : (ops operands : List ℕ) → Ready (l .nv) (l .w) (l .limit) ops operands → Going l out₀ out₀ ops operands (l .state) (l .left) 0
+  going-start ops operands g = record {
+    long = refl;
+    at = omega arith;
+    ready = g;
+    part = [];
+    wrote = nothing;
+    fill = ap (λ (k : ℕ). linesIn (l .nv) (l .w) (l .limit) k (l .left) (l .state)) (omega arith);
   }
 
--- ---- what a call wrote of the text that is owed
--- the load l further on may be drawn too
-further-fit : (l : Load) (left state : ℕ) → Fit l → Fit (further l left state)
-further-fit l left state f = record {
-  some = f .some;
-  few = f .few;
-  wide = f .wide;
-  narrow = f .narrow;
-  least = f .least;
-  most = f .most;
-  line = λ h. absurd (omega (arith, h));
-}
+  module _ (out ops operands : List ℕ) (state left p : ℕ) (g : Going l out₀ out ops operands state left p) where
+    abbrev d : Drawn
+    d = formulaFrom (l .nv) (l .w) (l .limit) state
 
-pub bare-fit : (n left : ℕ) → (0 < n → left ≡ 1) → Fit (bareLoad n left)
-bare-fit n left h = record {
-  some = omega arith;
-  few = omega arith;
-  wide = omega arith;
-  narrow = omega arith;
-  least = omega arith;
-  most = omega arith;
-  line = h;
-}
+    -- one line more
+    pub going-next : (out′ ops′ operands′ : List ℕ) (state′ next : ℕ) → p + lineMax ≤ length out₀ → 0 < left
+        → Wrote out p out′ next (formulaLine (d .form)) → next ≤ p + lineMax → state′ ≡ d .state → Ready (l .nv) (l .w) (l .limit) ops′ operands′
+        → Going l out₀ out′ ops′ operands′ state′ (left - 1) next
+    going-next out′ ops′ operands′ state′ next room some wrote few e ready = record {
+      long = wrote-length wrote ∙ g .long;
+      at = omega (arith, room, few);
+      ready = ready;
+      part = g .part ++ formulaLine (d .form);
+      wrote = then (g .wrote) wrote;
+      fill = g .fill
+          ∙ ap (after (g .part)) (in-more (l .nv) (l .w) (l .limit) (length out₀ - p) left state (omega (arith, room)) some)
+          ∙ after-after (l .nv) (l .w) (l .limit) (g .part) (formulaLine (d .form)) _
+          ∙ ap₂ (λ (k s : ℕ). after (g .part ++ formulaLine (d .form)) (linesIn (l .nv) (l .w) (l .limit) k (left - 1) s)) less (sym e);
+    }
+      where
+        less : length out₀ - p - length (formulaLine (d .form)) ≡ length out₀ - next
+        less = omega (arith, wrote .next)
 
--- lines
-pub lines-part : (l : Load) (out out′ : List ℕ) (r : LoadPart) (text : List ℕ) → l .refusal ≡ 0 → Owes l text → WroteLines l out out′ r → WroteSome out out′ r text
-unfolding owed
-lines-part l out out′ r text none o w = record {
-  part = w .part;
-  rest = linesFrom (l .nv) (l .w) (l .limit) (w .left) (w .state);
-  splits = sym (o .is) ∙ ap (λ (n : ℕ). cond (ltb 0 n) (refusedLine n) (linesFrom (l .nv) (l .w) (l .limit) (l .left) (l .state))) none ∙ w .splits;
-  wrote = w .wrote;
-  fits = w .fits;
-  owes = subst (λ (k : Load). Owes k (linesFrom (l .nv) (l .w) (l .limit) (w .left) (w .state))) (sym (w .load)) (record { fit = further-fit l (w .left) (w .state) (o .fit); is = refl });
-}
+    -- at the end, where no line is left or no room
+    module _ (r : LoadPart) (is : r ≡ record { refusal = 0; length = p; load = further l left state }) where
+      ended : linesIn (l .nv) (l .w) (l .limit) (length out₀ - p) left state ≡ record { text = []; left = left; state = state } → WroteLines l out₀ out r
+      ended e = subst (WroteLines l out₀ out) (sym is) (record {
+        wrote = reads (sym (ap (λ (f : Lines). f .text) all)) (g .wrote);
+        none = refl;
+        load = ap (λ (f : Lines). further l (f .left) (f .state)) (sym all);
+      })
+        where
+          all : linesIn (l .nv) (l .w) (l .limit) (length out₀) (l .left) (l .state) ≡ record { text = g .part; left = left; state = state }
+          all = g .fill ∙ ap (after (g .part)) e ∙ ap (λ (t : List ℕ). record { text = t; left = left; state = state }) (append-nil (g .part))
 
--- the line of a refusal, and nothing after it
-pub refusal-part : (l : Load) (out out′ : List ℕ) (r : LoadPart) (text : List ℕ) → 0 < l .refusal → Owes l text → Wrote out 0 out′ (r .length) (refusedLine (l .refusal)) → r .length ≤ length out → r .load ≡ bareLoad 0 0
-    → WroteSome out out′ r text
-unfolding owed
-refusal-part l out out′ r text some o w fits e = record {
-  part = refusedLine (l .refusal);
-  rest = [];
-  splits = sym (o .is)
-      ∙ ap (λ (b : Bool). cond b (refusedLine (l .refusal)) (linesFrom (l .nv) (l .w) (l .limit) (l .left) (l .state))) (lt-ltb 0 (l .refusal) some)
-      ∙ sym (append-nil (refusedLine (l .refusal)));
-  wrote = w;
-  fits = fits;
-  owes = subst (λ (k : Load). Owes k []) (sym e) (record { fit = bare-fit 0 0 (λ h. absurd (omega (arith, h))); is = lines-none 1 1 1 0 });
-}
+      pub going-done : left ≡ 0 → WroteLines l out₀ out r
+      going-done z = ended (in-none (l .nv) (l .w) (l .limit) (length out₀ - p) left state z)
 
--- a load that may be drawn isn't refused by the draw
-pub fit-none : (l : Load) (ops operands : List ℕ) → Fit l → 64 ≤ length ops → 64 ≤ length operands → drawRefusal (l .nv) (l .w) (l .limit) ops operands ≡ 0
-fit-none l ops operands f a b =
-    ready-none (l .nv) (l .w) (l .limit) ops operands
-    (record {
-      some = f .some;
-      few = f .few;
-      wide = f .wide;
-      narrow = f .narrow;
-      least = f .least;
-      most = f .most;
-      ops-fit = omega (arith, f .most, a);
-      operands-fit = omega (arith, f .most, b);
-    })
+      pub going-full : length out₀ < p + lineMax → WroteLines l out₀ out r
+      going-full h = ended (in-short (l .nv) (l .w) (l .limit) (length out₀ - p) left state (omega (arith, h, g .at)))
+
+-- ---- lines get fewer
+module _ (nv w limit : ℕ) where
+  pub in-least : (room n s : ℕ) → linesIn nv w limit room n s .left ≤ n
+  in-least room zero s = omega (arith, ap (λ (f : Lines). f .left) (in-none nv w limit room 0 s refl))
+  in-least room (suc n) s = go (le-or-lt lineMax room) (in-least (room - length (line nv w limit s)) n (formulaFrom nv w limit s .state))
+    where
+      go : (lineMax ≤ room) ⊎ (room < lineMax) → linesIn nv w limit (room - length (line nv w limit s)) n (formulaFrom nv w limit s .state) .left ≤ n → linesIn nv w limit room (suc n) s .left ≤ suc n
+      go (inl h) k =
+          let n′ : suc n - 1 ≡ n = omega arith in
+          let e = ap (λ (f : Lines). f .left) (in-more nv w limit room (suc n) s h (omega arith)) in
+          omega (arith, e, ap (λ (m : ℕ). linesIn nv w limit (room - length (line nv w limit s)) m (formulaFrom nv w limit s .state) .left) n′, k)
+      go (inr h) k = omega (arith, ap (λ (f : Lines). f .left) (in-short nv w limit room (suc n) s h))
+
+  -- where there is room for one, by one at least
+  pub in-fewer : (room n s : ℕ) → lineMax ≤ room → 0 < n → linesIn nv w limit room n s .left < n
+  in-fewer room n s h some =
+      omega (arith, ap (λ (f : Lines). f .left) (in-more nv w limit room n s h some), in-least (room - length (line nv w limit s)) (n - 1) (formulaFrom nv w limit s .state))

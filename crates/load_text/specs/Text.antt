@@ -11,8 +11,8 @@ use Rattle.load_draw.specs.Draw.{badLimit, loadFrom}
 abbrev pub seedOf : List ℕ → ℕ
 seedOf ns = getD ns 0 0
 
-abbrev pub countOf : List ℕ → ℕ
-countOf ns = getD ns 1 0
+abbrev pub varsOf : List ℕ → ℕ
+varsOf ns = getD ns 1 0
 
 abbrev pub widthOf : List ℕ → ℕ
 widthOf ns = getD ns 2 0
@@ -23,12 +23,13 @@ limitOf ns = getD ns 3 0
 abbrev pub manyOf : List ℕ → ℕ
 manyOf ns = getD ns 4 0
 
--- 02, 2.2, Errors, after 9: 1, 2, 6; the program's own arrays are never too short. The numbers as they were read, also for n = 0
-unfoldable pub numbersRefusal : List ℕ → ℕ
-numbersRefusal ns =
-    refuse (badCount (countOf ns)) 1
-    (refuse (badWidth (widthOf ns)) 2
-    (refuse (badLimit (limitOf ns)) 6 0))
+-- 02, 2.2, Errors, after 9: 1, 2, 6; the program's own arrays are never too short
+unfoldable pub loadRefusal : ℕ → ℕ → ℕ → ℕ
+loadRefusal nv w limit = refuse (badCount nv) 1 (refuse (badWidth w) 2 (refuse (badLimit limit) 6 0))
+
+-- the numbers as they were read, also for n = 0
+abbrev pub numbersRefusal : List ℕ → ℕ
+numbersRefusal ns = loadRefusal (varsOf ns) (widthOf ns) (limitOf ns)
 
 -- 02, 2.2: a program writes them in the listing's postfix form. The lines of a load of n
 unfoldable pub linesFrom : ℕ → ℕ → ℕ → ℕ → ℕ → List ℕ
@@ -37,9 +38,9 @@ linesFrom nv w limit n s = flatMap formulaLine (loadFrom nv w limit n s)
 
 -- the lines that the numbers ask for
 abbrev pub linesFor : List ℕ → List ℕ
-linesFor ns = linesFrom (countOf ns) (widthOf ns) (limitOf ns) (manyOf ns) (seedOf ns)
+linesFor ns = linesFrom (varsOf ns) (widthOf ns) (limitOf ns) (manyOf ns) (seedOf ns)
 
 -- 02, 2.2: it reads its numbers as the listing does, and tells a refusal as it does. What is written of what is read
 unfoldable pub loadText : List ℕ → List ℕ
-unfolding answerOf numbersRefusal linesFrom loadMany readText
+unfolding answerOf loadRefusal linesFrom loadMany readText
 loadText text = answerOf numbersRefusal linesFor (readText loadMany text)

@@ -4,15 +4,15 @@ use crate::Load;
 use crate::LoadPart;
 use expr::MAX_TOKENS;
 ghost use mathlib.Core.Path.{_≡_};
-ghost use Prim.Native.Nat.{_+_, _-_, _≤_, _<_};
+ghost use Prim.Native.Nat.{_+_, _≤_};
 ghost use lib.ListN.{length};
 ghost use Rattle.text_print.specs.Text.{formulaLine, refusedLine};
 ghost use Rattle.text_print.specs.Printing.{Wrote};
 ghost use Rattle.load_draw.specs.Draw.{formulaFrom};
 ghost use Rattle.load_draw.specs.Steps.{Ready};
 ghost use Rattle.load_text.specs.Text.{numbersRefusal};
-ghost use Rattle.load_text.specs.Writing.{lineMax, Fit};
-ghost use Rattle.load_text.specs.Steps.{bareLoad, loadOf, further, WroteLines};
+ghost use Rattle.load_text.specs.Writing.{lineMax, bareLoad, loadOf, further};
+ghost use Rattle.load_text.specs.Steps.{WroteFit, WroteLines};
 
 // Where seed, variable count, width, limit and n stand among the numbers.
 const SEED_AT: usize = 0;
@@ -47,7 +47,7 @@ pub fn load_of(numbers: [u64; 115]) -> Load
     ensures { λ r. ⌜ r ≡ loadOf numbers ⌝ }
 {
     Load {
-        refusal: 0,
+        number: 0,
         state: numbers[SEED_AT],
         nv: numbers[COUNT_AT] as u32,
         w: numbers[WIDTH_AT] as u32,
@@ -56,12 +56,12 @@ pub fn load_of(numbers: [u64; 115]) -> Load
     }
 }
 
-// A load of no formulas, with a refusal and as many lines as that is.
+// A load of no formula: a number and the line that tells it, or nothing.
 pub fn bare_load(number: u32, left: u64) -> Load
     ensures { λ r. ⌜ r ≡ bareLoad number left ⌝ }
 {
     Load {
-        refusal: number,
+        number,
         state: 0,
         nv: 1,
         w: 1,
@@ -74,7 +74,7 @@ pub fn bare_load(number: u32, left: u64) -> Load
 pub fn write_refusal(out: &mut [u8], number: u32) -> LoadPart
     requires { ⌜ lineMax ≤ length (now out) ⌝ }
     ensures { λ r. ⌜ Wrote (now (out .entry)) 0 (now (out .exit)) (r .length) (refusedLine number) ⌝ }
-    ensures { λ r. ⌜ (r .refusal ≡ 0) × (r .length ≤ lineMax) × (r .load ≡ bareLoad 0 0) ⌝ }
+    ensures { λ r. ⌜ (r .refusal ≡ 0) × (r .load ≡ bareLoad 0 0) ⌝ }
 {
     let length = text_print::inner::print_refusal(out, number);
     LoadPart {
@@ -84,11 +84,10 @@ pub fn write_refusal(out: &mut [u8], number: u32) -> LoadPart
     }
 }
 
-// The lines of a load; of one that may not be drawn, which `start` never gives, nothing.
+// The lines of a load; of one that may not be drawn nothing.
 pub fn write_fit(out: &mut [u8], load: Load) -> LoadPart
-    requires { ⌜ (lineMax ≤ length (now out)) × (load .refusal ≡ 0) ⌝ }
-    ensures { λ r. ⌜ (Fit load → WroteLines load (now (out .entry)) (now (out .exit)) r) ⌝ }
-    ensures { λ r. ⌜ (r .refusal ≡ 0) × (0 < load .left → r .load .left < load .left) ⌝ }
+    requires { ⌜ lineMax ≤ length (now out) ⌝ }
+    ensures { λ r. ⌜ WroteFit load (now (out .entry)) (now (out .exit)) r ⌝ }
 {
     let mut ops = [0u8; MAX_TOKENS];
     let mut operands = [0u64; MAX_TOKENS];
@@ -109,56 +108,66 @@ fn write_lines(
     operands: &mut [u64],
     load: Load,
 ) -> LoadPart
-    requires { ⌜ (lineMax ≤ length (now out)) × (load .refusal ≡ 0) × Ready (load .nv) (load .w) (load .limit) (now ops) (now operands) ⌝ }
+    requires { ⌜ (lineMax ≤ length (now out)) × Ready (load .nv) (load .w) (load .limit) (now ops) (now operands) ⌝ }
     ensures { λ r. ⌜ WroteLines load (now (out .entry)) (now (out .exit)) r ⌝ }
-    ensures { λ r. ⌜ (r .refusal ≡ 0) × (0 < load .left → r .load .left < load .left) ⌝ }
 {
     let last = out.len() - LINE_MAX;
-    let mut l = load;
+    let mut state = load.state;
+    let mut left = load.left;
     let mut p: usize = 0;
     while p <= last {
-        if l.left == 0 {
-            return LoadPart {
-                refusal: 0,
-                length: p,
-                load: l,
-            };
+        if left == 0 {
+            return lines_part(load, left, state, p);
         }
-        let x = write_line(out, ops, operands, p, l);
-        p = x.length;
-        l = x.load;
+        let x = write_line(out, ops, operands, p, state, load);
+        p = x.next;
+        state = x.state;
+        left -= 1;
     }
+    lines_part(load, left, state, p)
+}
+
+// The answer where p bytes are written and so many lines are left.
+fn lines_part(load: Load, left: u64, state: u64, p: usize) -> LoadPart
+    ensures { λ r. ⌜ r ≡ record { refusal = 0; length = p; load = further load left state } ⌝ }
+{
     LoadPart {
         refusal: 0,
         length: p,
-        load: l,
+        load: Load {
+            number: 0,
+            state,
+            nv: load.nv,
+            w: load.w,
+            limit: load.limit,
+            left,
+        },
     }
 }
 
-// The next formula as a line from place `at` on. The answer's length is the place after it.
+// The place after a line, and the state after its formula.
+struct Line {
+    next: usize,
+    state: u64,
+}
+
+// The next formula of the load as a line from place `at` on.
 fn write_line(
     out: &mut [u8],
     ops: &mut [u8],
     operands: &mut [u64],
     at: usize,
+    state: u64,
     load: Load,
-) -> LoadPart
-    requires { ⌜ (at + lineMax ≤ length (now out)) × (load .refusal ≡ 0) × (0 < load .left) × Ready (load .nv) (load .w) (load .limit) (now ops) (now operands) ⌝ }
-    ensures { λ r. ⌜ Wrote (now (out .entry)) at (now (out .exit)) (r .length) (formulaLine (formulaFrom (load .nv) (load .w) (load .limit) (load .state) .form)) ⌝ }
-    ensures { λ r. ⌜ (r .refusal ≡ 0) × (r .length ≤ at + lineMax) × (r .load ≡ further load (load .left - 1) (formulaFrom (load .nv) (load .w) (load .limit) (load .state) .state)) ⌝ }
+) -> Line
+    requires { ⌜ (at + lineMax ≤ length (now out)) × Ready (load .nv) (load .w) (load .limit) (now ops) (now operands) ⌝ }
+    ensures { λ r. ⌜ Wrote (now (out .entry)) at (now (out .exit)) (r .next) (formulaLine (formulaFrom (load .nv) (load .w) (load .limit) state .form)) ⌝ }
+    ensures { λ r. ⌜ (r .next ≤ at + lineMax) × (r .state ≡ formulaFrom (load .nv) (load .w) (load .limit) state .state) ⌝ }
 {
-    let d = load_draw::inner::draw(ops, operands, load.state, load.nv, load.w, load.limit);
-    let length = text_print::inner::formulas::print_formula(out, at, ops, operands, d.count);
-    LoadPart {
-        refusal: 0,
-        length,
-        load: Load {
-            refusal: 0,
-            state: d.state,
-            nv: load.nv,
-            w: load.w,
-            limit: load.limit,
-            left: load.left - 1,
-        },
+    let d = load_draw::inner::draw(ops, operands, state, load.nv, load.w, load.limit);
+    let next = text_print::inner::formulas::print_formula(out, at, ops, operands, d.count);
+    Line {
+        next,
+        state: d.state,
     }
 }

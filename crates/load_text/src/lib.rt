@@ -2,25 +2,25 @@
 pub mod inner;
 
 use text_parse::Parse;
+ghost use mathlib.Core.Path.{_≡_};
 ghost use mathlib.Core.List.{List};
 ghost use Prim.Native.Nat.{ℕ, _+_, _<_, _^_};
 ghost use lib.ListN.{length};
 ghost use Rattle.text_parse.specs.Reading.{Reads};
-ghost use Rattle.load_text.specs.Text.{loadText};
-ghost use Rattle.load_text.specs.Writing.{Owes, GoesOn};
+ghost use Rattle.text_parse.specs.Text.{loadMany, readText};
+ghost use Rattle.load_text.specs.Writing.{startOf, WroteSome};
 
 // How long a buffer has to be: no line is longer.
 pub const LINE_MAX: usize = 1409;
 
-// What is still to be written: a refusal's line, or as many lines as are left, drawn from the state on. But for `left` its fields are private: every load comes
-// from `start` and `write_some`, so it owes some text.
+// What is still to be written: the line that tells a refusal's number, or as many lines as are left, drawn from the state on.
 pub struct Load {
-    refusal: u32,
+    number: u32,
     state: u64,
     nv: u32,
     w: u32,
     limit: usize,
-    pub left: u64,
+    left: u64,
 }
 
 // How much stands in the buffer, and what is still to be written.
@@ -32,7 +32,7 @@ pub struct LoadPart {
 
 // The text is at its end: what the load program has to write of it.
 pub fn start(p: Parse) -> Load
-    ensures { λ r. ⌜ ((text : List ℕ) → length text + 1 < 2 ^ 64 → Reads p text → Owes r (loadText text)) ⌝ }
+    ensures { λ r. ⌜ ((text : List ℕ) → length text + 1 < 2 ^ 64 → Reads p text → r ≡ startOf (readText loadMany text)) ⌝ }
 {
     let input = text_parse::finish_load(p);
     if !input.fits {
@@ -46,9 +46,16 @@ pub fn start(p: Parse) -> Load
     inner::load_of(numbers)
 }
 
+// How many lines are still to be written.
+pub fn left(load: Load) -> u64
+    ensures { λ r. ⌜ r ≡ load .left ⌝ }
+{
+    load.left
+}
+
 // Writes lines as long as the buffer surely has room for another, and hands on the rest. Refuses 4.
 pub fn write_some(out: &mut [u8], load: Load) -> LoadPart
-    ensures { λ r. ⌜ GoesOn load (now (out .entry)) (now (out .exit)) r ⌝ }
+    ensures { λ r. ⌜ WroteSome load (now (out .entry)) (now (out .exit)) r ⌝ }
 {
     if out.len() < LINE_MAX {
         return LoadPart {
@@ -57,8 +64,15 @@ pub fn write_some(out: &mut [u8], load: Load) -> LoadPart
             load,
         };
     }
-    if load.refusal != 0 {
-        return inner::write_refusal(out, load.refusal);
+    if load.left == 0 {
+        return LoadPart {
+            refusal: 0,
+            length: 0,
+            load,
+        };
+    }
+    if load.number != 0 {
+        return inner::write_refusal(out, load.number);
     }
     inner::write_fit(out, load)
 }

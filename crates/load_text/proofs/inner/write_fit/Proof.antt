@@ -1,8 +1,8 @@
 -- `load_text::inner::write_fit` meets its contract: a load that may be drawn is written. Assumes nothing.
-use mathlib.Core.Path.{refl, sym, ap, _∙_}
+use mathlib.Core.Path.{refl, sym, _∙_}
+use Rattle.text_print.proofs.Decimals.{nothing}
 use Rattle.load_draw.proofs.Refusing.{ready}
-use Rattle.load_text.specs.declared.Load.{Load}
-use Rattle.load_text.proofs.Lines.{fit-none}
+use Rattle.load_text.proofs.Refusing.{draw-none, load-none}
 use native.Mathlib.Omega.{arith}
 use borrow.Author.Needs.{needs}
 use Rattle.load_text.proofs.inner.write_fit.Statement.{statement}
@@ -21,8 +21,11 @@ bare-load-requires : tie.Need-bare-load-requires
 bare-load-requires c κs = search needs
 
 returns : tie.Need-returns
-returns c = let t = c .before in let x = t .before .draw-refusal in let a = t .before .before .before .before .before .args in
-    (λ fit. absurd (t .if1 .taken (x .ensures ∙ fit-none (a .load) _ _ fit (search needs) (search needs))), (refl, λ h. omega (arith, h, ap (λ (k : Load). k .left) (c .bare-load .ensures))))
+returns c = let t = c .before in let x = t .before .draw-refusal in let l = t .before .before .before .before .before .args .load in
+    record {
+      lines = λ e. absurd (t .if1 .taken (x .ensures ∙ draw-none (l .nv) (l .w) (l .limit) _ _ e (search needs) (search needs)));
+      nothing = λ h. record { wrote = nothing; none = refl; load = c .bare-load .ensures };
+    }
 
 slice-aggregate-write-lines : tie.Need-slice-aggregate-write-lines
 slice-aggregate-write-lines c = search needs
@@ -31,14 +34,18 @@ slice-aggregate-write-lines-2 : tie.Need-slice-aggregate-write-lines-2
 slice-aggregate-write-lines-2 c = search needs
 
 write-lines-requires : tie.Need-write-lines-requires
-write-lines-requires c κs = let t = c .before .before .before in let x = t .before .draw-refusal in let a = t .before .before .before .before .before .args in let p = t .before .before .before .before .before .pre in
-    (p .0, p .1, ready (a .load .nv) (a .load .w) (a .load .limit) _ _ (sym (x .ensures) ∙ t .if1 .left))
+write-lines-requires c κs = let t = c .before .before .before in let x = t .before .draw-refusal in let s = t .before .before .before .before .before in let l = s .args .load in
+    (s .pre, ready (l .nv) (l .w) (l .limit) _ _ (sym (x .ensures) ∙ t .if1 .left))
 
 same-length : tie.Need-same-length
 same-length c = search needs
 
 returns-2 : tie.Need-returns-2
-returns-2 c = let w = c .before .before .before .before .write-lines .ensures in (λ fit. w .0, w .1)
+returns-2 c = let w = c .before .before .before .before in let t = w .before .before .before .before in let x = t .before .draw-refusal in let l = t .before .before .before .before .before .args .load in
+    record {
+      lines = λ e. w .write-lines .ensures;
+      nothing = λ h. absurd (omega (arith, h, load-none (l .nv) (l .w) (l .limit) _ _ (ready (l .nv) (l .w) (l .limit) _ _ (sym (x .ensures) ∙ t .if1 .left))));
+    }
 
 pub write-fit-spec : {M : Type 1} → statement M
 write-fit-spec =

@@ -1,11 +1,10 @@
 -- `load_text::inner::write_line` meets its contract: what was drawn is what is printed. Assumes nothing.
-use mathlib.Core.Path.{refl, ap}
-use Prim.Native.Nat.{_-_, _≤_}
+use mathlib.Core.Path.{ap}
+use Prim.Native.Nat.{_≤_}
 use Rattle.text_print.proofs.Decimals.{reads}
 use Rattle.load_draw.specs.declared.DrawnFormula.{DrawnFormula}
 use Rattle.load_draw.specs.Draw.{formulaFrom}
 use Rattle.load_draw.proofs.Drawing.{form-most}
-use Rattle.load_text.specs.Steps.{further}
 use Rattle.load_text.proofs.Lines.{line-is}
 use native.Mathlib.Omega.{arith}
 use borrow.Author.Needs.{needs}
@@ -17,14 +16,11 @@ draw-requires c κs = search needs
 
 -- at most 64 tokens were drawn
 few : (c : tie.After-draw) → c .draw .result .count ≤ 64
-few c = let l = c .before .before .before .before .before .before .args .load in let g = c .before .before .before .before .before .before .pre .3 in
-    omega (arith, ap (λ (x : DrawnFormula). x .count) (c .draw .ensures .0), form-most (l .nv) (l .w) (l .limit) (l .state) (g .least), g .most)
+few c = let t = c .before .before .before .before .before .before in let l = t .args .load in let g = t .pre .1 in
+    omega (arith, ap (λ (x : DrawnFormula). x .count) (c .draw .ensures .0), form-most (l .nv) (l .w) (l .limit) (t .args .state) (g .least), g .most)
 
 print-formula-requires : tie.Need-print-formula-requires
 print-formula-requires c κs = let n = few (c .before .before .before .before .before .before .before) in omega (arith, n)
-
-sub-t18 : tie.Need-sub-t18
-sub-t18 c = search needs
 
 same-length : tie.Need-same-length
 same-length c = search needs
@@ -36,20 +32,13 @@ same-length-3 : tie.Need-same-length-3
 same-length-3 c = search needs
 
 returns : tie.Need-returns
-returns c = let q = c .before .before .before in let e = q .before .before .before .before .before .before .before .before in let a = e .before .before .before .before .before .before .args in
+returns c = let q = c .before .before in let e = q .before .before .before .before .before .before .before .before in let a = e .before .before .before .before .before .before .args in
     let l = a .load in let g = e .draw .ensures in (
-      reads (line-is (formulaFrom (l .nv) (l .w) (l .limit) (l .state) .form) _ (a .ops .now) (a .operands .now) _ _ (ap (λ (x : DrawnFormula). x .count) (g .0)) (g .1 .0) (g .1 .1)) (q .print-formula .ensures .0),
-      (refl, omega (arith, few e, q .print-formula .ensures .1), ap (λ (x : DrawnFormula). further l (l .left - 1) (x .state)) (g .0)),
+      reads (line-is (formulaFrom (l .nv) (l .w) (l .limit) (a .state) .form) _ (a .ops .now) (a .operands .now) _ _ (ap (λ (x : DrawnFormula). x .count) (g .0)) (g .1 .0) (g .1 .1)) (q .print-formula .ensures .0),
+      (omega (arith, few e, q .print-formula .ensures .1), ap (λ (x : DrawnFormula). x .state) (g .0)),
     )
 
 pub write-line-spec : {M : Type 1} → statement M
 write-line-spec =
     tie.close
-    (tie.spec
-    draw-requires
-    print-formula-requires
-    sub-t18
-    same-length
-    same-length-2
-    same-length-3
-    returns)
+    (tie.spec draw-requires print-formula-requires same-length same-length-2 same-length-3 returns)
