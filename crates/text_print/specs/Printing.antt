@@ -1,8 +1,8 @@
 -- What is printed from the lent arrays of a bank and an index. Assumes nothing.
 use mathlib.Core.Path.{_≡_}
 use mathlib.Core.Bool.{Bool}
-use mathlib.Core.List.{List, _∷_, _++_, flatMap}
-use Prim.Native.Nat.{ℕ, zero, suc, _+_, _*_, _≤_, _<_}
+use mathlib.Core.List.{List, [], _∷_, _++_, flatMap}
+use Prim.Native.Nat.{ℕ, zero, suc, _+_, _*_, _/_, _%_, _^_, _≤_, _<_}
 use lib.ListN.{length, getD}
 use lib.Seq.{sets}
 use Rattle.limits.specs.Limits.{atomsMax}
@@ -57,6 +57,30 @@ formulaMax = 133
 
 abbrev pub atomMax : ℕ
 atomMax = 196
+
+-- ---- digits by pairs, zeros before the others
+-- two digits of a number below 100, four of one below 10^4, eight of one below 10^8
+unfoldable pub twoOf : ℕ → List ℕ
+twoOf n = (48 + n / 10) ∷ (48 + n % 10) ∷ []
+
+unfoldable pub fourOf : ℕ → List ℕ
+unfolding twoOf
+fourOf n = twoOf (n / 100) ++ twoOf (n % 100)
+
+unfoldable pub eightOf : ℕ → List ℕ
+unfolding fourOf
+eightOf n = fourOf (n / 10000) ++ fourOf (n % 10000)
+
+-- four numbers in a word, 16 bits each, and the two bytes of twoOf as a number
+abbrev pub lanes : ℕ → ℕ → ℕ → ℕ → ℕ
+lanes a b c d = a + 2 ^ 16 * b + 2 ^ 32 * c + 2 ^ 48 * d
+
+abbrev pub bytesOf : ℕ → ℕ
+bytesOf n = 48 + n / 10 + 256 * (48 + n % 10)
+
+-- r has the tenths of the numbers below 100 that v has
+pub record Tenths (v r : ℕ) : Type 0 where
+  pub are : (a b c d : ℕ) → a < 100 → b < 100 → c < 100 → d < 100 → v ≡ lanes a b c d → r ≡ lanes (a / 10) (b / 10) (c / 10) (d / 10)
 
 -- ---- the text from the arrays
 -- the lines of the first n slots
