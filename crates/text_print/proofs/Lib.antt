@@ -1,4 +1,5 @@
 -- The laws of this crate.
 pub mod Decimals
+pub mod Lanes
 pub mod Listings
 pub mod Answers

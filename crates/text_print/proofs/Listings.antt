@@ -11,8 +11,10 @@ use Rattle.arrays.specs.Lists.{countUp}
 use Rattle.arrays.proofs.Lists.{count-add, flat-append}
 use Rattle.arrays.specs.Parts.{partAt, spread}
 use Rattle.arrays.proofs.Parts.{getD-part, encode-part}
-use Rattle.row_gates.specs.declared.Gate.the-variants.{And}
+use Rattle.row_gates.specs.declared.Gate.{Gate}
+use Rattle.row_gates.specs.declared.Gate.the-variants.{And, Or, Xor, Add, Mul}
 use Rattle.expr.specs.declared.Token.{Token}
+use Rattle.expr.specs.declared.Token.the-variants.{Constant, Variable, Binary, Not, Neg, Bad}
 use Rattle.expr.specs.Formula.{tokenAt, tokens}
 use Rattle.expr.proofs.Tokens.{tokens-length}
 use Rattle.bank_spec.specs.Push.{Atom, noAtom}
@@ -21,7 +23,7 @@ use Rattle.bank_spec.proofs.Encodings.{form-back, length-at, ops-at, operands-a
 use Rattle.index_spec.specs.Index.{Pair, Index}
 use Rattle.index_spec.specs.Encoding.{pairPart}
 use Rattle.text_print.specs.Text.{field, headLine, costLine, tokenText, tokensText, formulaLine, pairLine, listingOf}
-use Rattle.text_print.specs.Printing.{Wrote, linesText, numbersLine, numbersAt, formulaAt, nextText, Holding}
+use Rattle.text_print.specs.Printing.{Wrote, linesText, numbersLine, numbersAt, formulaAt, nextText, signOf, Holding}
 use Rattle.text_print.proofs.Decimals.{then, nothing, reads}
 
 -- ---- lines
@@ -69,6 +71,39 @@ pub formula-at : (lengths ops operands : List ℕ) (k : ℕ)
     → formulaLine (tokens (getD lengths k 0) (take (6 * k + 6 - 6 * k) (drop (6 * k) ops)) (take (6 * k + 6 - 6 * k) (drop (6 * k) operands))) ≡ formulaAt lengths ops operands k
 unfolding formulaAt partAt
 formula-at lengths ops operands k = let e : 6 * k + 6 - 6 * k ≡ 6 = omega arith in rw e
+
+-- a token that has a sign is its sign, and one that has none is no gate's
+pub sign-text : (t : Token) → (signOf t ≡ 0 → ⊥) → signOf t ∷ [] ≡ tokenText t
+unfolding signOf tokenText
+sign-text (Constant k) h = absurd (h refl)
+sign-text (Variable i) h = absurd (h refl)
+sign-text (Binary Add) h = refl
+sign-text (Binary Mul) h = refl
+sign-text (Binary And) h = refl
+sign-text (Binary Or) h = refl
+sign-text (Binary Xor) h = refl
+sign-text Not h = refl
+sign-text Neg h = refl
+sign-text Bad h = absurd (h refl)
+
+gate-sign : (g : Gate) → signOf (Binary g) ≡ 0 → ⊥
+unfolding signOf
+gate-sign Add e = omega (arith, e)
+gate-sign Mul e = omega (arith, e)
+gate-sign And e = omega (arith, e)
+gate-sign Or e = omega (arith, e)
+gate-sign Xor e = omega (arith, e)
+
+pub gate-signed : {t : Token} {g : Gate} → t ≡ Binary g → signOf t ≡ 0 → ⊥
+gate-signed {t} {g} e f = gate-sign g (ap signOf (sym e) ∙ f)
+
+pub not-signed : {t : Token} → t ≡ Not → signOf t ≡ 0 → ⊥
+unfolding signOf
+not-signed e f = omega (arith, ap signOf (sym e) ∙ f)
+
+pub neg-signed : {t : Token} → t ≡ Neg → signOf t ≡ 0 → ⊥
+unfolding signOf
+neg-signed e f = omega (arith, ap signOf (sym e) ∙ f)
 
 -- a token that isn't the first
 pub next-later : (i : ℕ) (t : Token) → (i ≡ 0 → ⊥) → 32 ∷ tokenText t ≡ nextText i t

@@ -8,7 +8,9 @@ use lib.Seq.{sets}
 use Rattle.limits.specs.Limits.{atomsMax}
 use Rattle.arrays.specs.Lists.{countUp}
 use Rattle.arrays.specs.Parts.{partAt, spread}
+use Rattle.row_gates.specs.declared.Gate.the-variants.{And, Or, Xor, Add, Mul}
 use Rattle.expr.specs.declared.Token.{Token}
+use Rattle.expr.specs.declared.Token.the-variants.{Constant, Variable, Binary, Not, Neg, Bad}
 use Rattle.expr.specs.Formula.{tokens}
 use Rattle.bank_spec.specs.Push.{Atom}
 use Rattle.bank_spec.specs.Encoding.{Arrays, written}
@@ -101,6 +103,19 @@ numbersAt numbers k = numbersLine (partAt 3 numbers k)
 unfoldable pub formulaAt : List ℕ → List ℕ → List ℕ → ℕ → List ℕ
 unfolding formulaLine tokens partAt
 formulaAt lengths ops operands k = formulaLine (tokens (getD lengths k 0) (partAt 6 ops k) (partAt 6 operands k))
+
+-- the sign of a token, 0 for a leaf and for what is no token
+unfoldable pub signOf : Token → ℕ
+signOf (Constant k) = 0
+signOf (Variable i) = 0
+signOf (Binary Add) = 43
+signOf (Binary Mul) = 42
+signOf (Binary And) = 38
+signOf (Binary Or) = 124
+signOf (Binary Xor) = 94
+signOf Not = 33
+signOf Neg = 45
+signOf Bad = 0
 
 -- a token with i others before it in its line
 unfoldable pub nextText : ℕ → Token → List ℕ

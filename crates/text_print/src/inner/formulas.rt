@@ -9,7 +9,7 @@ ghost use lib.ListN.{length};
 ghost use Rattle.expr.specs.declared.Token.the-variants.{Binary};
 ghost use Rattle.expr.specs.Formula.{tokens};
 ghost use Rattle.text_print.specs.Text.{decimal, tokenText, formulaLine};
-ghost use Rattle.text_print.specs.Printing.{Wrote, tokenMax, nextMax, formulaMax, Stored, linesText, nextText, formulaAt};
+ghost use Rattle.text_print.specs.Printing.{Wrote, tokenMax, nextMax, formulaMax, Stored, linesText, nextText, formulaAt, signOf};
 
 // The token places of an atom in the lent arrays.
 const TOKENS: usize = 6;
@@ -68,18 +68,31 @@ fn print_next(out: &mut [u8], at: usize, i: usize, t: Token) -> usize
     print_token(out, at + 1, t)
 }
 
-// A leaf as a letter and its number, any other token as its sign.
+// A token as its sign, or what has none. The signs are told apart by no jump: which one comes next is not foreseen.
 fn print_token(out: &mut [u8], at: usize, t: Token) -> usize
     requires { ⌜ at + tokenMax ≤ length (now out) ⌝ }
+    ensures { λ r. ⌜ Wrote (now (out .entry)) at (now (out .exit)) r (tokenText t) ⌝ }
+    ensures { λ r. ⌜ r ≤ at + tokenMax ⌝ }
+{
+    let sign = sign_of(t);
+    if sign != 0 {
+        return print_sign(out, at, sign);
+    }
+    print_signless(out, at, t)
+}
+
+// A leaf as a letter and its number; nothing for what is no token.
+fn print_signless(out: &mut [u8], at: usize, t: Token) -> usize
+    requires { ⌜ (signOf t ≡ 0) × (at + tokenMax ≤ length (now out)) ⌝ }
     ensures { λ r. ⌜ Wrote (now (out .entry)) at (now (out .exit)) r (tokenText t) ⌝ }
     ensures { λ r. ⌜ r ≤ at + tokenMax ⌝ }
 {
     match t {
         Token::Constant(k) => print_leaf(out, at, b'c', k),
         Token::Variable(i) => print_leaf(out, at, b'v', i),
-        Token::Binary(g) => print_sign(out, at, sign_of(g)),
-        Token::Not => print_sign(out, at, b'!'),
-        Token::Neg => print_sign(out, at, b'-'),
+        Token::Binary(_) => at,
+        Token::Not => at,
+        Token::Neg => at,
         Token::Bad => at,
     }
 }
@@ -104,9 +117,23 @@ fn print_sign(out: &mut [u8], at: usize, sign: u8) -> usize
     at + 1
 }
 
+// The sign of a token, 0 where it has none.
+fn sign_of(t: Token) -> u8
+    ensures { λ r. ⌜ r ≡ signOf t ⌝ }
+{
+    match t {
+        Token::Constant(_) => 0,
+        Token::Variable(_) => 0,
+        Token::Binary(g) => gate_sign(g),
+        Token::Not => b'!',
+        Token::Neg => b'-',
+        Token::Bad => 0,
+    }
+}
+
 // The sign of a gate.
-fn sign_of(g: Gate) -> u8
-    ensures { λ r. ⌜ tokenText (Binary g) ≡ r ∷ [] ⌝ }
+fn gate_sign(g: Gate) -> u8
+    ensures { λ r. ⌜ r ≡ signOf (Binary g) ⌝ }
 {
     match g {
         Gate::And => b'&',

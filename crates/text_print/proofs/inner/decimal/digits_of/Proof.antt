@@ -2,7 +2,7 @@
 use native.Mathlib.Omega.{arith}
 use borrow.Author.Needs.{needs}
 use Prim.Native.Nat.{_/_, _%_, _^_, _<_}
-use Rattle.text_print.proofs.Decimals.{pairsOf, pairs-below, digits-left, digits-fit}
+use Rattle.text_print.proofs.Lanes.{pairsOf, pairs-below, digits-left, digits-fit}
 use Rattle.text_print.proofs.inner.decimal.digits_of.Statement.{statement}
 use Rattle.text_print.proofs.inner.decimal.digits_of.Tie as tie
 
