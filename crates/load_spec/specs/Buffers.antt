@@ -1,28 +1,34 @@
--- 02, 2.2: what the program writes, buffer after buffer, is the text of the load. Assumes nothing.
+-- 02, 2.2: what the program writes, buffer after buffer, is the text of the load, and it ends. Assumes nothing.
 use mathlib.Core.Path.{_≡_}
-use mathlib.Core.List.{List, [], _∷_, flatMap}
+use mathlib.Core.Bool.{Bool, true, _&&_, cond}
+use mathlib.Core.List.{List, [], _∷_, _++_}
 use Prim.Native.Nat.{ℕ, _≤_}
-use lib.ListN.{length, take}
+use lib.Dec.{leb, ltb}
+use lib.ListN.{length}
+use Rattle.text_parse.specs.Text.{loadMany, readText}
 use Rattle.load_text.specs.declared.Load.{Load}
-use Rattle.load_text.specs.declared.LoadPart.{LoadPart}
-use Rattle.load_text.specs.Writing.{lineMax, Owes, GoesOn}
+use Rattle.load_text.specs.Text.{loadText}
+use Rattle.load_text.specs.Writing.{lineMax, startOf, owed, partOf}
 
--- a call of `write_some`: the buffer before and after it, and its answer
-pub record Call : Type 0 where
-  pub out : List ℕ
-  pub out′ : List ℕ
-  pub part : LoadPart
+-- the load that is started of what was read owes the program's text of it
+abbrev pub StartOwes : Type 0
+StartOwes = (text : List ℕ) → owed (startOf (readText loadMany text)) ≡ loadText text
 
--- calls one after the other, with buffers that are long enough, each on the load that the one before handed on, until nothing is left
-unfoldable pub Ran : Load → List Call → Type 0
-Ran l [] = l .left ≡ 0
-Ran l (x ∷ more) = (lineMax ≤ length (x .out)) × (GoesOn l (x .out) (x .out′) (x .part) × Ran (x .part .load) more)
+-- what the program writes into buffers of these lengths, one after the other, as long as a line is left: each time what `write_some` lays, which hands on the load
+unfoldable pub writtenIn : Load → List ℕ → List ℕ
+unfolding partOf
+writtenIn l [] = []
+writtenIn l (room ∷ more) = cond (ltb 0 (l .left)) (partOf l room .text ++ writtenIn (partOf l room .load) more) []
 
--- what is written to standard output of it
-unfoldable pub written : List Call → List ℕ
-unfolding flatMap
-written calls = flatMap (λ (x : Call). take (x .part .length) (x .out′)) calls
+-- each buffer has room for a line
+unfoldable pub longEnough : List ℕ → Bool
+longEnough [] = true
+longEnough (room ∷ more) = leb lineMax room && longEnough more
 
--- the text, whole and nothing else (`start` of what was read owes `loadText` of it)
+-- as many buffers as lines suffice, and what is written in all is what is owed, nothing twice and nothing left out
 abbrev pub BufferAfterBuffer : Type 0
-BufferAfterBuffer = (l : Load) (text : List ℕ) (calls : List Call) → Owes l text → Ran l calls → written calls ≡ text
+BufferAfterBuffer = (l : Load) (rooms : List ℕ) → longEnough rooms ≡ true → l .left ≤ length rooms → writtenIn l rooms ≡ owed l
+
+-- no call writes past its buffer
+abbrev pub PartFits : Type 0
+PartFits = (l : Load) (room : ℕ) → lineMax ≤ room → length (partOf l room .text) ≤ room
