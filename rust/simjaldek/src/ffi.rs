@@ -79,6 +79,14 @@ pub struct TextReply {
     pub length: usize,
 }
 
+/// How many tokens were drawn, and the state handed on; no token and the state as it was beside a refusal.
+#[repr(C)]
+pub struct FormulaReply {
+    pub refusal: u32,
+    pub count: usize,
+    pub state: u64,
+}
+
 extern "C" {
     pub fn simjaldek_product_search(
         w: u32,
@@ -202,6 +210,17 @@ extern "C" {
         operands: *const u64,
         operands_len: usize,
     ) -> CostReply;
+
+    pub fn simjaldek_draw_formula(
+        ops: *mut u8,
+        ops_len: usize,
+        operands: *mut u64,
+        operands_len: usize,
+        state: u64,
+        nv: u32,
+        w: u32,
+        limit: usize,
+    ) -> FormulaReply;
 
     pub fn simjaldek_make_probe_points(nv: u32, w: u32) -> PointsReply;
 

@@ -106,6 +106,15 @@ pub struct Built {
     pub cut: bool,
 }
 
+/// What a drawn formula is told by.
+#[derive(Clone, Copy, Debug, PartialEq, Eq)]
+pub struct Drawn {
+    /// How many tokens.
+    pub count: usize,
+    /// The state that the next formula is drawn from.
+    pub state: u64,
+}
+
 /// How many bytes a buffer for a listing has: the longest listing fits.
 pub const TEXT_MAX: usize = 131_072;
 
@@ -386,6 +395,38 @@ pub fn compute_cost(num_vars: u32, formula: Tokens<'_>) -> Result<Cost, Refusal>
         depth: reply.depth,
     };
     unless_refused(reply.refusal, cost)
+}
+
+/// Draws the tokens of a formula from a state of splitmix64 into the first places of two arrays, at most `limit`, its constants below 2^w;
+/// both arrays have a place for each of `limit` tokens. [`is_formula`] holds of what is drawn, and the same inputs draw the same. A load of
+/// n formulas is n calls, each from the state that the one before it gave. Refuses 1, 2, 4, and 6 for a limit that isn't 1 to 64.
+pub fn draw_formula(
+    state: u64,
+    num_vars: u32,
+    width: u32,
+    limit: usize,
+    ops: &mut [u8],
+    operands: &mut [u64],
+) -> Result<Drawn, Refusal> {
+    // SAFETY: each pointer comes with its own slice's length; the function stays within these lengths and keeps no pointer. The
+    // written slices are `&mut`, so they overlap nothing.
+    let reply = unsafe {
+        ffi::simjaldek_draw_formula(
+            ops.as_mut_ptr(),
+            ops.len(),
+            operands.as_mut_ptr(),
+            operands.len(),
+            state,
+            num_vars,
+            width,
+            limit,
+        )
+    };
+    let drawn = Drawn {
+        count: reply.count,
+        state: reply.state,
+    };
+    unless_refused(reply.refusal, drawn)
 }
 
 /// The sixteen points that splitmix64 gives. Refuses 1, 2.
