@@ -399,7 +399,8 @@ pub fn compute_cost(num_vars: u32, formula: Tokens<'_>) -> Result<Cost, Refusal>
 
 /// Draws the tokens of a formula from a state of splitmix64 into the first places of two arrays, at most `limit`, its constants below 2^w;
 /// both arrays have a place for each of `limit` tokens. [`is_formula`] holds of what is drawn, and the same inputs draw the same. A load of
-/// n formulas is n calls, each from the state that the one before it gave. Refuses 1, 2, 4, and 6 for a limit that isn't 1 to 64.
+/// n formulas is n calls, each from the state that the one before it gave; [`Load`](crate::Load) makes them. Refuses 1, 2, 4, and 6 for a
+/// limit that isn't 1 to 64.
 pub fn draw_formula(
     state: u64,
     num_vars: u32,

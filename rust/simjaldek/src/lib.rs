@@ -68,6 +68,8 @@
 //! assert_eq!(format!("{gate:?} of {a} and {pair}"), "Add of v0 v1 ^ and v0 v1 + v0 v1 + *");
 //! # Ok::<(), Box<dyn std::error::Error>>(())
 //! ```
+//!
+//! And a [`Load`] for tests: formulas drawn from a seed, the same ones wherever they are drawn.
 
 #![warn(missing_docs)]
 #![deny(unsafe_code)]
@@ -79,6 +81,7 @@ mod ffi;
 mod formula;
 mod index;
 pub mod lent;
+mod load;
 mod parse;
 mod points;
 mod refusal;
@@ -93,6 +96,7 @@ pub use lent::{
     bitmask, mod_add, mod_inverse_odd, mod_mul, mod_neg, mod_not, mod_sub, reduce, splitmix64,
     wrapping_mul,
 };
+pub use load::Load;
 pub use parse::{ParseFormulaError, ParseTokenError};
 pub use points::{Points, ReadError, Reading};
 pub use refusal::Refusal;

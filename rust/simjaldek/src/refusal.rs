@@ -17,13 +17,13 @@ pub enum Refusal {
     ShortArray,
     /// 5: a point, target or row word, p or t is not below 2^w.
     Word,
-    /// 6: not a formula of 1 to 64 tokens over the variables, or not a gate's number.
+    /// 6: not a formula of 1 to 64 tokens over the variables, not a gate's number, or not a token limit of 1 to 64.
     Formula,
     /// 7: more atoms or pairs are claimed than there can be, or an atom slot is not below its count.
     Count,
     /// 8: the order list is not the one of the pairs' rows.
     OrderList,
-    /// 9: the listing program's text is not the numbers that it asks for. No call of this crate answers it.
+    /// 9: a program's text is not the numbers that it asks for. No call of this crate answers it.
     Text,
     /// A number that the table doesn't have.
     Other(u32),
@@ -76,7 +76,7 @@ impl fmt::Display for Refusal {
             Refusal::Formula => {
                 "formula of 0 or over 64 tokens, unknown opcode, nonzero unused operand, \
                  variable not below the count, operand missing, or not exactly one value left; \
-                 or not a gate's number, 0 to 4"
+                 or not a gate's number, 0 to 4; or not a token limit, 1 to 64"
             }
             Refusal::Count => {
                 "more than 479 atoms or 262,144 pairs claimed, \
