@@ -4,7 +4,7 @@ mod common;
 
 use common::{one_variable, p2, BankBuffers, IndexBuffers, FILL, FILL_U32, FILL_U64};
 use simjaldek::lent::{self, Atoms, Built, PairRows, Pairs, Tokens};
-use simjaldek::{AtomSlot, Bank, Index, Points, Product, Refusal, ATOMS_MAX, PAIRS_MAX};
+use simjaldek::{AtomSlot, Bank, Index, Load, Points, Product, Refusal, ATOMS_MAX, PAIRS_MAX};
 
 const P2_POINTS: [u64; 4] = [0, 1, 2, 3];
 
@@ -442,6 +442,53 @@ fn formula_refusals() {
         };
         assert_eq!(asked(1, 8, formula, &[7]), [6, 6, 6]);
     }
+}
+
+/// Draws into filled arrays of so many places and gives the refusal; a refused draw must leave them as they were.
+fn draw_number(nv: u32, w: u32, limit: usize, ops: usize, operands: usize) -> u32 {
+    let (mut ops, mut operands) = (vec![FILL; ops], vec![FILL_U64; operands]);
+    let drawn = lent::draw_formula(1, nv, w, limit, &mut ops, &mut operands);
+    let untouched = ops.iter().all(|&x| x == FILL) && operands.iter().all(|&x| x == FILL_U64);
+    assert_eq!(drawn.is_err(), untouched);
+    number(drawn)
+}
+
+#[test]
+fn draw_refusals() {
+    for limit in [1, 2, 7, 64] {
+        for nv in 1..=6 {
+            assert_eq!(draw_number(nv, 1, limit, limit, limit), 0);
+        }
+        assert_eq!(draw_number(6, 64, limit, limit, 100), 0);
+        assert_eq!(draw_number(6, 64, limit, limit - 1, 100), 4);
+        assert_eq!(draw_number(6, 64, limit, 100, limit - 1), 4);
+    }
+    for nv in [0, 7, u32::MAX] {
+        assert_eq!(draw_number(nv, 8, 7, 7, 7), 1);
+    }
+    for w in [0, 65, u32::MAX] {
+        assert_eq!(draw_number(1, w, 7, 7, 7), 2);
+    }
+    for limit in [0, 65, usize::MAX] {
+        assert_eq!(draw_number(1, 8, limit, 100, 100), 6);
+    }
+    for (nv, w, limit) in [(0, 8, 7), (1, 0, 7), (1, 8, 0), (7, 65, 65), (6, 65, 0)] {
+        let refused = draw_number(nv, w, limit, 100, 100);
+        assert_eq!(number(Load::new(1, nv, w, limit)), refused);
+    }
+}
+
+/// The least number counts; a limit outside is 6 however short the arrays are.
+#[test]
+fn draw_faults_at_once() {
+    assert_eq!(draw_number(0, 0, 0, 0, 0), 1);
+    assert_eq!(draw_number(7, 8, 7, 6, 6), 1);
+    assert_eq!(draw_number(1, 0, 7, 6, 6), 2);
+    assert_eq!(draw_number(1, 65, 65, 64, 64), 2);
+    assert_eq!(draw_number(1, 8, 64, 63, 0), 4);
+    assert_eq!(draw_number(1, 8, 0, 0, 0), 6);
+    assert_eq!(draw_number(1, 8, 65, 0, 64), 6);
+    assert_eq!(draw_number(1, 8, usize::MAX, 1, 1), 6);
 }
 
 #[test]
