@@ -11,8 +11,9 @@
 
    An array goes as its first element's address and its length. An array that is written must not overlap another.
    `refusal`, where a reply has it, is 0 for an answer, else why there is none: 1 variable count, 2 width, 3 limit, 4 array
-   too short, 5 word not below 2^w, 6 no formula or no gate, 7 too many atoms or pairs or a slot past the count, 8 order
-   list. Beside a refusal no array was written, and the rest of the reply is zeros. */
+   too short, 5 word not below 2^w, 6 no formula, no gate or no token limit, 7 too many atoms or pairs or a slot past the
+   count, 8 order list. Beside a refusal no array was written, and the rest of the reply is zeros, but for a state that was
+   handed in: it is as it was. */
 #ifndef SIMJALDEK_H
 #define SIMJALDEK_H
 
@@ -87,6 +88,13 @@ struct simjaldek_token_reply {
 struct simjaldek_text_reply {
     uint32_t refusal;
     size_t length;
+};
+
+/* How many tokens were drawn, and the state handed on; no token and the state as it was beside a refusal. */
+struct simjaldek_formula_reply {
+    uint32_t refusal;
+    size_t count;
+    uint64_t state;
 };
 
 /* `search_product::product_search`: kind 0 nothing, 1 the atoms a and b, 2 the atom a and the pair b. Refuses 2, 4, 5, 7, 8. */
@@ -177,6 +185,15 @@ struct simjaldek_cost_reply simjaldek_compute_cost(
     size_t token_count,
     const uint8_t *ops, size_t ops_len,
     const uint64_t *operands, size_t operands_len);
+
+/* `load_draw::draw_formula`: the tokens drawn stand in the arrays. Refuses 1, 2, 4, and 6 for a limit that isn't 1 to 64. */
+struct simjaldek_formula_reply simjaldek_draw_formula(
+    uint8_t *ops, size_t ops_len,
+    uint64_t *operands, size_t operands_len,
+    uint64_t state,
+    uint32_t nv,
+    uint32_t w,
+    size_t limit);
 
 /* `probe_points::make_probe_points`. Refuses 1, 2. */
 struct simjaldek_points_reply simjaldek_make_probe_points(

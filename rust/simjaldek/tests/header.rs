@@ -28,8 +28,9 @@ const HEAD: &str = "/* The static library of Simjaldek, for C programs; docs/CAL
 
    An array goes as its first element's address and its length. An array that is written must not overlap another.
    `refusal`, where a reply has it, is 0 for an answer, else why there is none: 1 variable count, 2 width, 3 limit, 4 array
-   too short, 5 word not below 2^w, 6 no formula or no gate, 7 too many atoms or pairs or a slot past the count, 8 order
-   list. Beside a refusal no array was written, and the rest of the reply is zeros. */
+   too short, 5 word not below 2^w, 6 no formula, no gate or no token limit, 7 too many atoms or pairs or a slot past the
+   count, 8 order list. Beside a refusal no array was written, and the rest of the reply is zeros, but for a state that was
+   handed in: it is as it was. */
 #ifndef SIMJALDEK_H
 #define SIMJALDEK_H
 
