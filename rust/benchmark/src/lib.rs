@@ -6,7 +6,10 @@
 mod builds;
 mod clock;
 mod formulas;
+pub mod load;
 pub mod measure;
+pub mod parse;
+mod process;
 mod residuals;
 mod searches;
 mod setting;
@@ -42,11 +45,12 @@ pub enum Call {
     Evaluate,
     EvaluateCompiled,
     Cost,
+    Draw,
 }
 
 impl Call {
     /// All calls, in the tables' order.
-    pub const ALL: [Call; 16] = [
+    pub const ALL: [Call; 17] = [
         Call::Bank,
         Call::Index,
         Call::SearchNothing,
@@ -63,6 +67,7 @@ impl Call {
         Call::Evaluate,
         Call::EvaluateCompiled,
         Call::Cost,
+        Call::Draw,
     ];
 
     /// Its heading.
@@ -84,6 +89,7 @@ impl Call {
             Call::Evaluate => "Evaluate",
             Call::EvaluateCompiled => "Evaluate, the Rust's formula compiled before",
             Call::Cost => "Cost",
+            Call::Draw => "Draw a formula",
         }
     }
 
@@ -125,6 +131,7 @@ pub fn time_setting(plan: &Plan, setting: &mut Setting) -> Vec<Line> {
         builds::time(plan, setting, &mut take);
         searches::time(plan, setting, &mut take);
         formulas::time(plan, num_vars, width, &mut take);
+        load::time(plan, num_vars, width, &mut take);
     }
     residuals::time(plan, setting, &mut take);
     lines
@@ -136,6 +143,7 @@ pub fn check_setting(setting: &Setting) {
     if setting.width != RESIDUALS_ALONE {
         searches::check(setting);
         formulas::check(setting.num_vars, setting.width);
+        load::check(setting.num_vars, setting.width);
     }
     residuals::check(setting);
 }

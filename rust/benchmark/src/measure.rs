@@ -123,7 +123,7 @@ fn calls_taking(batch_time: Duration, side: Side<'_>) -> u32 {
 }
 
 /// The middle value, or the mean of the middle two.
-fn median(mut samples: Vec<f64>) -> f64 {
+pub fn median(mut samples: Vec<f64>) -> f64 {
     samples.sort_unstable_by(f64::total_cmp);
     let (low, high) = ((samples.len() - 1) / 2, samples.len() / 2);
     (samples[low] + samples[high]) / 2.0

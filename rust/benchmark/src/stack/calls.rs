@@ -6,7 +6,7 @@ use std::hint::black_box;
 use simjaldek::lent::{self, Tokens};
 use simjaldek::{
     bitmask, AtomSlot, Bank, Completion, Cost, Formula, FormulaBuf, Gate, Index, Points, Product,
-    Row, PAIRS_MAX,
+    Row, FORMULA_TOKENS_MAX, PAIRS_MAX,
 };
 
 use crate::setting::{BankBuffers, IndexBuffers};
@@ -30,7 +30,7 @@ const WIDTH: u32 = 64;
 const LISTED_MAX: usize = 500;
 
 /// All exports, in the library's order; `empty`, which makes no call, comes first.
-pub const CALLS: [Call; 30] = [
+pub const CALLS: [Call; 31] = [
     call("empty", "", || Box::new(|| ())),
     call("product_search", FULL_INDEX, product_search),
     call("residual_search", FULL_INDEX, residual_search),
@@ -42,6 +42,11 @@ pub const CALLS: [Call; 30] = [
     call("is_formula", FORMULAS, is_formula),
     call("eval", FORMULAS, eval),
     call("compute_cost", FORMULAS, compute_cost),
+    call(
+        "draw_formula",
+        "six variables, width 64, limit 64",
+        draw_formula,
+    ),
     call("make_probe_points", "six variables", || {
         Box::new(|| assert!(lent::probe_points(NUM_VARS, WIDTH).is_ok()))
     }),
@@ -157,6 +162,19 @@ fn eval() -> Work {
 
 fn compute_cost() -> Work {
     with_formulas(|tokens| assert!(lent::compute_cost(NUM_VARS, tokens).is_ok()))
+}
+
+/// A hundred formulas of up to 64 tokens.
+fn draw_formula() -> Work {
+    let mut state = 1;
+    let (mut ops, mut operands) = ([0; FORMULA_TOKENS_MAX], [0; FORMULA_TOKENS_MAX]);
+    Box::new(move || {
+        for _ in 0..100 {
+            let limit = FORMULA_TOKENS_MAX;
+            let drawn = lent::draw_formula(state, NUM_VARS, WIDTH, limit, &mut ops, &mut operands);
+            state = drawn.expect("in range").state;
+        }
+    })
 }
 
 fn probe() -> Work {
