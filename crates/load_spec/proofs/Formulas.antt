@@ -14,7 +14,7 @@ use Rattle.limits.specs.Refusal.{outsideOf, badCount}
 use Rattle.limits.proofs.Refusals.{within, inside, and-both}
 use Rattle.probe_points.specs.Points.{nextState, wordOf, stateAfter}
 use Rattle.expr.specs.declared.Token.{Token}
-use Rattle.expr.specs.declared.Token.the-variants.{Constant, Variable, Bad}
+use Rattle.expr.specs.declared.Token.the-variants.{Constant, Variable, Binary, Not, Neg, Bad}
 use Rattle.expr.specs.Formula.{tokenOf, arity, opcodeOf, operandOf, known, allKnown, isFormula}
 use Rattle.expr.proofs.Machine.{passes, passes-ok, passes-end, formula-inside}
 use Rattle.load_draw.specs.Draw.{drawnWord, takes, canLeaveOne, mayPick, choices, pickedBy, tokenFrom, stateFrom, restFrom, formulaFrom, badLimit}
@@ -125,7 +125,49 @@ unfolding formulaFrom
 constants-reduced nv w limit s k i = rest-reduced nv w (1 + drawnWord s % limit) 0 (nextState s) k (omega arith) i
 
 -- ---- how many draws
--- a leaf draws once more
-leaf-draws : (nv w o s : ℕ) (ts : List Token) (n : ℕ) → stateAfter n (stateFrom o s) ≡ stateAfter (n + (leaves (tokenFrom nv w o s ∷ ts) - leaves ts)) s
+-- after the opcode a leaf draws once more, any other token not
+token-draws : (nv w o s : ℕ) (ts : List Token) → stateFrom o s ≡ stateAfter (leaves (tokenFrom nv w o s ∷ ts) - leaves ts) s
 unfolding stateFrom tokenFrom tokenOf leaves stateAfter
-leaf-draws nv w o s ts n = {!!}
+token-draws nv w zero s ts = ap (λ (n : ℕ). stateAfter n s) {x = 1} (omega arith)
+token-draws nv w (suc zero) s ts = ap (λ (n : ℕ). stateAfter n s) {x = 1} (omega arith)
+token-draws nv w (suc (suc zero)) s ts = ap (λ (n : ℕ). stateAfter n s) {x = 0} (omega arith)
+token-draws nv w (suc (suc (suc zero))) s ts = ap (λ (n : ℕ). stateAfter n s) {x = 0} (omega arith)
+token-draws nv w (suc (suc (suc (suc zero)))) s ts = ap (λ (n : ℕ). stateAfter n s) {x = 0} (omega arith)
+token-draws nv w (suc (suc (suc (suc (suc zero))))) s ts = ap (λ (n : ℕ). stateAfter n s) {x = 0} (omega arith)
+token-draws nv w (suc (suc (suc (suc (suc (suc zero)))))) s ts = ap (λ (n : ℕ). stateAfter n s) {x = 0} (omega arith)
+token-draws nv w (suc (suc (suc (suc (suc (suc (suc zero))))))) s ts = ap (λ (n : ℕ). stateAfter n s) {x = 0} (omega arith)
+token-draws nv w (suc (suc (suc (suc (suc (suc (suc (suc zero)))))))) s ts = ap (λ (n : ℕ). stateAfter n s) {x = 0} (omega arith)
+token-draws nv w (suc (suc (suc (suc (suc (suc (suc (suc (suc o))))))))) s ts = ap (λ (n : ℕ). stateAfter n s) {x = 0} (omega arith)
+
+leaves-least : (t : Token) (ts : List Token) → leaves ts ≤ leaves (t ∷ ts)
+unfolding leaves
+leaves-least (Constant k) ts = omega arith
+leaves-least (Variable i) ts = omega arith
+leaves-least (Binary g) ts = omega arith
+leaves-least Not ts = omega arith
+leaves-least Neg ts = omega arith
+leaves-least Bad ts = omega arith
+
+after-add : (n m s : ℕ) → stateAfter n (stateAfter m s) ≡ stateAfter (m + n) s
+unfolding stateAfter
+after-add n zero s = ap (λ (k : ℕ). stateAfter k s) (omega arith)
+after-add n (suc m) s = after-add n m (nextState s) ∙ ap (λ (k : ℕ). stateAfter k s) {x = suc (m + n)} (omega arith)
+
+rest-draws : (nv w n d s : ℕ) → restFrom nv w n d s .state ≡ stateAfter (n + leaves (restFrom nv w n d s .form)) s
+unfolding restFrom leaves stateAfter
+rest-draws nv w zero d s = ap (λ (k : ℕ). stateAfter k s) {x = 0} (omega arith)
+rest-draws nv w (suc r) d s =
+    let o = pickedBy d r (drawnWord s) in
+    let t = tokenFrom nv w o (nextState s) in
+    let ts = restFrom nv w r (d - takes o + 1) (stateFrom o (nextState s)) .form in
+    rest-draws nv w r (d - takes o + 1) (stateFrom o (nextState s))
+    ∙ ap (stateAfter (r + leaves ts)) (token-draws nv w o (nextState s) ts)
+    ∙ after-add (r + leaves ts) (leaves (t ∷ ts) - leaves ts) (nextState s)
+    ∙ ap (λ (k : ℕ). stateAfter k s) {x = suc (leaves (t ∷ ts) - leaves ts + (r + leaves ts))} (omega (arith, leaves-least t ts))
+
+pub one-draw-for-each-choice : OneDrawForEachChoice
+unfolding formulaFrom stateAfter
+one-draw-for-each-choice nv w limit s =
+    rest-draws nv w (1 + drawnWord s % limit) 0 (nextState s)
+    ∙ ap (λ (k : ℕ). stateAfter (k + leaves (formulaFrom nv w limit s .form)) (nextState s)) (sym (form-length nv w limit s))
+    ∙ ap (λ (k : ℕ). stateAfter k s) {x = suc (length (formulaFrom nv w limit s .form) + leaves (formulaFrom nv w limit s .form))} (omega arith)

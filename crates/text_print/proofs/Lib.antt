@@ -3,3 +3,4 @@ pub mod Decimals
 pub mod Lanes
 pub mod Listings
 pub mod Answers
+pub mod Lengths
