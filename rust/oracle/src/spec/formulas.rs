@@ -183,7 +183,8 @@ impl Handed {
     }
 }
 
-fn arity(op: u64) -> usize {
+/// How many values a token takes.
+pub(super) fn arity(op: u64) -> usize {
     match op {
         0 | 1 => 0,
         7 | 8 => 1,

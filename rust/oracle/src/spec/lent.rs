@@ -1,12 +1,14 @@
-//! What is handed to the candidates and to the searches, good or not.
+//! What is handed to the candidates, to the searches and to the test load, good or not.
 
 use crate::access::Row;
 
 use super::bank::ATOMS_MAX;
+use super::formulas::{TOKENS_MAX, VARS_MAX};
 use super::index::PAIRS_MAX;
 use super::product::order_list;
 use super::refusals::{
-    NONE, REFUSED_COUNT, REFUSED_LENGTH, REFUSED_ORDER, REFUSED_WIDTH, REFUSED_WORD,
+    NONE, REFUSED_COUNT, REFUSED_FORMULA, REFUSED_LENGTH, REFUSED_ORDER, REFUSED_VARS,
+    REFUSED_WIDTH, REFUSED_WORD,
 };
 
 /// The listed pairs.
@@ -135,6 +137,34 @@ impl ResidualSearch {
             REFUSED_WORD
         } else if self.count > ATOMS_MAX as u64 || self.pairs > PAIRS_MAX {
             REFUSED_COUNT
+        } else {
+            NONE
+        }
+    }
+}
+
+/// What is handed to the call that draws a formula; of the token arrays their lengths.
+#[derive(Clone, Copy, Debug)]
+pub struct DrawFormula {
+    pub num_vars: u64,
+    pub width: u64,
+    pub limit: u64,
+    pub ops: u64,
+    pub operands: u64,
+}
+
+impl DrawFormula {
+    /// The table for a draw: 1, 2, 4, 6, the least that applies; 4 only for a limit of 1 to 64.
+    pub fn refusal(&self) -> u64 {
+        let limit_good = (1..=TOKENS_MAX as u64).contains(&self.limit);
+        if !(1..=VARS_MAX).contains(&self.num_vars) {
+            REFUSED_VARS
+        } else if !(1..=64).contains(&self.width) {
+            REFUSED_WIDTH
+        } else if limit_good && self.ops.min(self.operands) < self.limit {
+            REFUSED_LENGTH
+        } else if !limit_good {
+            REFUSED_FORMULA
         } else {
             NONE
         }

@@ -6,6 +6,8 @@ pub mod formulas;
 pub mod index;
 pub mod lent;
 pub mod listing;
+pub mod load;
 pub mod product;
 pub mod refusals;
 pub mod residual;
+pub mod texts;

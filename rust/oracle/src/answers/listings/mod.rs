@@ -11,6 +11,7 @@ use crate::answers::data_file::DataFile;
 use crate::made::banks::BankInput;
 use crate::spec::listing as spec;
 use crate::spec::refusals::NONE;
+use crate::spec::texts::refusal_line;
 
 const LISTING: u64 = 20;
 /// The room that the program has for what it prints.
@@ -52,7 +53,7 @@ pub fn data_file() -> Vec<u8> {
 pub fn expected(text: &[u8]) -> String {
     match spec::refusal(text) {
         NONE => printed::listing(&spec::numbers(text).expect("not refused")),
-        refusal => format!("refused {refusal}\n"),
+        refusal => refusal_line(refusal),
     }
 }
 

@@ -1,10 +1,10 @@
 //! What the listing program must print: the Rust's bank and index, held against the specification's, as text.
 
-use crate::access::{self, AtomView, Formula, IndexView, Row};
+use crate::access::{self, AtomView, IndexView, Row};
 
 use crate::made::banks::BankInput;
-use crate::spec::formulas::{ADD, AND, CONSTANT, MUL, NEG, NOT, OR, VARIABLE, XOR};
 use crate::spec::index as spec;
+use crate::spec::texts::{formula_line, parted};
 
 /// The text for numbers that are not refused.
 pub fn listing(numbers: &[u64]) -> String {
@@ -34,37 +34,11 @@ fn asked(numbers: &[u64]) -> (BankInput, usize) {
 fn text(atoms: &[AtomView], index: &IndexView, cut: bool) -> String {
     let (count, pairs) = (atoms.len(), index.pairs.len());
     let end = if cut { "cut" } else { "whole" };
-    let mut lines = vec![format!("atoms {count} pairs {pairs} {end}")];
-    lines.extend(atoms.iter().map(|atom| parted(&atom.cost)));
-    lines.extend(atoms.iter().map(|atom| formula(&atom.formula)));
-    lines.extend(index.pairs.iter().map(|pair| parted(pair)));
-    lines.iter().map(|line| format!("{line}\n")).collect()
-}
-
-fn formula(formula: &Formula) -> String {
-    let tokens: Vec<String> = formula.tokens().map(token).collect();
-    parted(&tokens)
-}
-
-fn token((op, operand): (u8, u64)) -> String {
-    match op {
-        CONSTANT => format!("c{operand}"),
-        VARIABLE => format!("v{operand}"),
-        ADD => "+".into(),
-        MUL => "*".into(),
-        AND => "&".into(),
-        OR => "|".into(),
-        XOR => "^".into(),
-        NOT => "!".into(),
-        NEG => "-".into(),
-        _ => panic!("opcode {op}"),
-    }
-}
-
-/// By one blank each.
-pub fn parted<T: ToString>(items: &[T]) -> String {
-    let items: Vec<String> = items.iter().map(T::to_string).collect();
-    items.join(" ")
+    let mut lines = vec![format!("atoms {count} pairs {pairs} {end}\n")];
+    lines.extend(atoms.iter().map(|atom| parted(&atom.cost) + "\n"));
+    lines.extend(atoms.iter().map(|atom| formula_line(&atom.formula)));
+    lines.extend(index.pairs.iter().map(|pair| parted(pair) + "\n"));
+    lines.concat()
 }
 
 #[cfg(test)]

@@ -2,9 +2,9 @@
 
 use std::iter;
 
-use super::printed::parted;
 use crate::inputs::one_variable;
 use crate::made::banks::BankInput;
+use crate::spec::texts::parted;
 
 /// Places of the first numbers.
 pub const NUM_VARS: usize = 0;
