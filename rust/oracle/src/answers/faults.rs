@@ -1,4 +1,4 @@
-//! What the searches are handed that the specification's table refuses.
+//! What calls are handed that the specification's table refuses.
 
 use crate::spec::refusals::{least, NONE};
 
@@ -20,7 +20,10 @@ pub struct Fault<Handed> {
 /// What is good, made wrong by each two faults, each three, and all; with what it is refused with then.
 pub fn faulty<Handed: Clone>(good: &Handed, faults: &[Fault<Handed>]) -> Vec<(Handed, u64)> {
     let mut all = Vec::new();
-    for count in [2, 3, faults.len() as u32] {
+    let mut counts = vec![2, 3, faults.len() as u32];
+    counts.sort();
+    counts.dedup();
+    for count in counts {
         for members in (0u32..1 << faults.len()).filter(|set| set.count_ones() == count) {
             let (mut handed, mut refusal) = (good.clone(), NONE);
             for (_, fault) in (0..)

@@ -6,13 +6,15 @@ mod faults;
 mod formulas;
 mod indexes;
 pub mod listings;
+mod loads;
+mod malformed;
 mod probe;
 mod residuals;
 mod searched;
 mod searches;
 
 /// The names of the data files.
-pub const NAMES: [&str; 7] = [
+pub const NAMES: [&str; 8] = [
     "probe",
     "formulas",
     "banks",
@@ -20,18 +22,20 @@ pub const NAMES: [&str; 7] = [
     "searches",
     "residuals",
     "listings",
+    "loads",
 ];
 
-/// The data file of that name, if there is one. The listings' texts hold bytes of any kind.
+/// The data file of that name, if there is one. The programs' texts hold bytes of any kind.
 pub fn data_file(name: &str) -> Option<Vec<u8>> {
     match name {
-        "probe" => Some(probe::data_file().into_bytes()),
-        "formulas" => Some(formulas::data_file().into_bytes()),
-        "banks" => Some(banks::data_file().into_bytes()),
-        "indexes" => Some(indexes::data_file().into_bytes()),
-        "searches" => Some(searches::data_file().into_bytes()),
-        "residuals" => Some(residuals::data_file().into_bytes()),
+        "probe" => Some(probe::data_file()),
+        "formulas" => Some(formulas::data_file()),
+        "banks" => Some(banks::data_file()),
+        "indexes" => Some(indexes::data_file()),
+        "searches" => Some(searches::data_file()),
+        "residuals" => Some(residuals::data_file()),
         "listings" => Some(listings::data_file()),
+        "loads" => Some(loads::data_file()),
         _ => None,
     }
 }

@@ -54,7 +54,7 @@ const HEAD: [&str; 12] = [
 ];
 
 /// The whole file.
-pub fn data_file() -> String {
+pub fn data_file() -> Vec<u8> {
     let mut file = DataFile::with_head(
         "words, points, fingerprints and gates on rows",
         "probe",
@@ -70,7 +70,7 @@ pub fn data_file() -> String {
     matches(&mut file);
     bitmasks(&mut file);
     inverses(&mut file);
-    file.into_text()
+    file.into_bytes()
 }
 
 /// The published words, with the states between them; the Rust must give the same.

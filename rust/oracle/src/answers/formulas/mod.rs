@@ -22,9 +22,9 @@ const HEAD: [&str; 8] = [
 ];
 
 /// The whole file.
-pub fn data_file() -> String {
+pub fn data_file() -> Vec<u8> {
     let mut file = DataFile::with_head("values and costs of formulas", "formulas", &HEAD);
     answered::lines(&mut file);
     refused::lines(&mut file);
-    file.into_text()
+    file.into_bytes()
 }

@@ -27,9 +27,9 @@ const HEAD: [&str; 15] = [
 ];
 
 /// The whole file.
-pub fn data_file() -> String {
+pub fn data_file() -> Vec<u8> {
     let mut file = DataFile::with_head("indexes of pairs", "indexes", &HEAD);
     answered::lines(&mut file);
     refused::lines(&mut file);
-    file.into_text()
+    file.into_bytes()
 }

@@ -14,8 +14,6 @@ use crate::spec::refusals::NONE;
 use crate::spec::texts::refusal_line;
 
 const LISTING: u64 = 20;
-/// The room that the program has for what it prints.
-const PRINTED_MAX: usize = 131_072;
 
 const HEAD: [&str; 16] = [
     "  20 A B",
@@ -38,15 +36,14 @@ const HEAD: [&str; 16] = [
 
 /// The whole file.
 pub fn data_file() -> Vec<u8> {
-    let head = DataFile::with_head("listings of banks and indexes", "listings", &HEAD);
     let mut file = Listings {
-        bytes: head.into_text().into_bytes(),
+        file: DataFile::with_head("listings of banks and indexes", "listings", &HEAD),
     };
     answered::cases(&mut file);
     refused::cases(&mut file);
     malformed::cases(&mut file);
     shapes::cases(&mut file);
-    file.bytes
+    file.file.into_bytes()
 }
 
 /// What the listing program must print of a text.
@@ -63,22 +60,14 @@ pub fn text_for(bank: &BankInput, limit: u64) -> Vec<u8> {
 }
 
 struct Listings {
-    bytes: Vec<u8>,
+    file: DataFile,
 }
 
 impl Listings {
     /// One text. Its refusal is stated by hand, and the table must say the same.
     fn case(&mut self, text: &[u8], refusal: u64) {
         assert_eq!(spec::refusal(text), refusal);
-        self.put(text, &expected(text));
-    }
-
-    fn put(&mut self, text: &[u8], printed: &str) {
-        assert!(printed.len() <= PRINTED_MAX);
-        let line = format!("{LISTING} {} {}\n", text.len(), printed.len());
-        for part in [line.as_bytes(), text, printed.as_bytes(), b"\n"] {
-            self.bytes.extend_from_slice(part);
-        }
+        self.file.text(LISTING, text, &expected(text));
     }
 }
 

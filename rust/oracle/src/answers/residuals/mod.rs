@@ -40,12 +40,12 @@ const HEAD: [&str; 24] = [
 ];
 
 /// The whole file.
-pub fn data_file() -> String {
+pub fn data_file() -> Vec<u8> {
     let mut file = DataFile::with_head("residual searches", "residuals", &HEAD);
     built::lines(&mut file);
     refused::lines(&mut file);
     lent::lines(&mut file);
-    file.into_text()
+    file.into_bytes()
 }
 
 /// The Rust's answer, which must be the specification's.
@@ -74,7 +74,7 @@ mod tests {
     /// Each answer stands in several lines of both kinds that have answers.
     #[test]
     fn every_answer() {
-        let text = data_file();
+        let text = String::from_utf8(data_file()).unwrap();
         let lines: Vec<Vec<u64>> = text
             .lines()
             .filter(|line| !line.starts_with('#'))

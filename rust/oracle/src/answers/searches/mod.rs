@@ -43,13 +43,13 @@ const HEAD: [&str; 26] = [
 ];
 
 /// The whole file.
-pub fn data_file() -> String {
+pub fn data_file() -> Vec<u8> {
     let mut file = DataFile::with_head("candidates and product searches", "searches", &HEAD);
     candidates::lines(&mut file);
     products::lines(&mut file);
     products_refused::lines(&mut file);
     candidates_refused::lines(&mut file);
-    file.into_text()
+    file.into_bytes()
 }
 
 /// Pairs whose row words are all 0, and their order list, its first two entries exchanged if `swap` is 1.
