@@ -16,7 +16,7 @@ pub fn garbage_u32(inputs: &mut Inputs, len: usize) -> Vec<u32> {
     (0..len).map(|_| inputs.word() as u32).collect()
 }
 
-fn garbage_u8(inputs: &mut Inputs, len: usize) -> Vec<u8> {
+pub fn garbage_u8(inputs: &mut Inputs, len: usize) -> Vec<u8> {
     (0..len).map(|_| inputs.word() as u8).collect()
 }
 

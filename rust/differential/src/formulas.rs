@@ -21,17 +21,23 @@ pub fn compare(inputs: &mut Inputs, report: &mut Report, points: &[Vec<u64>], wi
     }
 }
 
-/// A formula of 1 to 64 tokens, and a word for each variable.
+/// A formula of 1 to 64 tokens, one time in four as the test load draws it, and a word for each variable.
 pub fn random_formula(inputs: &mut Inputs, num_vars: u64, width: u32) -> (Formula, Vec<u64>) {
     let most = inputs.one_of(&[6, 16, TOKENS_MAX as u64]);
     let count = 1 + inputs.below(most) as usize;
     let lean = inputs.one_of(&[Lean::Left, Lean::Right, Lean::Any, Lean::Any]);
+    let is_drawn = inputs.below(4) == 0;
     let mut maker = Maker {
         inputs,
         num_vars,
         width,
     };
-    (maker.formula(count, lean), maker.words())
+    let formula = if is_drawn {
+        maker.drawn(most)
+    } else {
+        maker.formula(count, lean)
+    };
+    (formula, maker.words())
 }
 
 /// The tokens with garbage after them, or nothing.

@@ -10,6 +10,7 @@ mod buffers;
 mod formulas;
 mod indexes;
 mod listings;
+mod loads;
 mod refused;
 pub mod report;
 mod residuals;
@@ -34,6 +35,10 @@ const BANKS: usize = 4;
 /// Lent banks of each kind in a round of residual searches alone, and calls that may be refused.
 const RESIDUAL_BANKS: usize = 8;
 const RESIDUAL_REFUSALS: usize = 32;
+/// Of so many rounds one has a load of ten thousand.
+const ROUNDS_TO_A_LOAD: u64 = 64;
+/// Calls of a round of loads alone that may be refused.
+const LOAD_REFUSALS: usize = 32;
 
 /// Rounds until at least `count` results are compared.
 pub fn run(seed: u64, count: u64) -> Report {
@@ -57,7 +62,18 @@ pub fn run_residuals(seed: u64, count: u64) -> Report {
     report
 }
 
-/// One round: banks, indexes and searches, formulas, words, listings, and what is refused.
+/// Rounds of loads alone until at least `count` drawn formulas are compared one by one.
+pub fn run_loads(seed: u64, count: u64) -> Report {
+    let mut report = Report::new(seed);
+    let mut number = 0;
+    while report.of_kind(Kind::DrawnFormula) < count {
+        load_round(seed, number, &mut report);
+        number += 1;
+    }
+    report
+}
+
+/// One round: banks, indexes and searches, formulas, loads, words, listings, and what is refused.
 pub fn round(seed: u64, number: u64, report: &mut Report) {
     let inputs = &mut begin(seed, number, report);
     for _ in 1..BANKS {
@@ -76,6 +92,10 @@ pub fn round(seed: u64, number: u64, report: &mut Report) {
     residuals::compare(inputs, report, &setting.lent_rows(limit));
     residuals::compare_made(inputs, report);
     formulas::compare(inputs, report, &input.points, width);
+    loads::compare(inputs, report);
+    if number % ROUNDS_TO_A_LOAD == 0 {
+        loads::compare_load(inputs, report);
+    }
     words::compare(inputs, report);
     listings::compare(inputs, report);
     refused::compare(inputs, report);
@@ -98,6 +118,17 @@ pub fn residual_round(seed: u64, number: u64, report: &mut Report) {
     }
     for _ in 0..RESIDUAL_REFUSALS {
         refused::residual(inputs, report);
+    }
+}
+
+/// One round of loads: from one state formulas of every limit, variable count and width in turn; a load of ten thousand; and what is
+/// refused.
+pub fn load_round(seed: u64, number: u64, report: &mut Report) {
+    let inputs = &mut begin(seed, number, report);
+    loads::compare_all(inputs, report);
+    loads::compare_load(inputs, report);
+    for _ in 0..LOAD_REFUSALS {
+        refused::draw(inputs, report);
     }
 }
 

@@ -1,6 +1,6 @@
 //! `differential SEED COUNT`: rounds until so many results are compared. `differential SEED round NUMBER`: that round again.
 //! `differential SEED residuals COUNT`: rounds of residual searches alone until there are so many; `SEED residuals round NUMBER`: that
-//! round again.
+//! round again. `differential SEED loads COUNT`, `SEED loads round NUMBER`: the same of formulas drawn for the test load.
 //! Exit status 1 where a result differs in a way that docs/DIFFERENCES.md doesn't have.
 //! `differential answers NAME`: the data file of that name of crates/compare/data, the originals' answers for the program that compares.
 //! `differential differences`: where the originals' search differs from the specification, for a reader.
@@ -28,7 +28,7 @@ fn main() -> ExitCode {
 
 fn usage() -> ExitCode {
     eprintln!(
-        "usage: differential SEED [residuals] COUNT | SEED [residuals] round NUMBER | answers {} | differences",
+        "usage: differential SEED [residuals|loads] COUNT | SEED [residuals|loads] round NUMBER | answers {} | differences",
         answers::NAMES.join("|")
     );
     ExitCode::from(2)
@@ -53,9 +53,13 @@ fn asked(words: &[&str]) -> Option<Report> {
         [seed, "residuals", count] => {
             Some(differential::run_residuals(number(seed)?, number(count)?))
         }
+        [seed, "loads", count] => Some(differential::run_loads(number(seed)?, number(count)?)),
         [seed, "round", round] => one(differential::round, number(seed)?, number(round)?),
         [seed, "residuals", "round", round] => {
             one(differential::residual_round, number(seed)?, number(round)?)
+        }
+        [seed, "loads", "round", round] => {
+            one(differential::load_round, number(seed)?, number(round)?)
         }
         _ => None,
     }

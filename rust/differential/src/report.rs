@@ -37,6 +37,10 @@ pub enum Kind {
     FormulaTest,
     /// A token at a place, against the plain statement.
     Token,
+    /// A formula drawn, both token arrays and the state handed on, against the plain statement; its value and cost.
+    DrawnFormula,
+    /// The same for each of ten thousand, up to the first that differs.
+    DrawnLoad,
     Points,
     Splitmix,
     Fingerprint,
@@ -61,6 +65,7 @@ pub enum Kind {
     RefusedValue,
     RefusedCost,
     RefusedFormulaRow,
+    RefusedDraw,
     RefusedPoints,
     RefusedGate,
     RefusedFingerprint,
@@ -68,7 +73,7 @@ pub enum Kind {
 
 impl Kind {
     /// Every kind, in order.
-    pub const ALL: [Kind; 39] = [
+    pub const ALL: [Kind; 42] = [
         Kind::Bank,
         Kind::FindRow,
         Kind::AtomRow,
@@ -85,6 +90,8 @@ impl Kind {
         Kind::FormulaRow,
         Kind::FormulaTest,
         Kind::Token,
+        Kind::DrawnFormula,
+        Kind::DrawnLoad,
         Kind::Points,
         Kind::Splitmix,
         Kind::Fingerprint,
@@ -105,6 +112,7 @@ impl Kind {
         Kind::RefusedValue,
         Kind::RefusedCost,
         Kind::RefusedFormulaRow,
+        Kind::RefusedDraw,
         Kind::RefusedPoints,
         Kind::RefusedGate,
         Kind::RefusedFingerprint,

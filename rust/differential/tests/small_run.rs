@@ -1,10 +1,11 @@
 //! A small run: a few rounds, all kinds, no difference but those of docs/DIFFERENCES.md.
 
 use differential::report::Kind;
-use differential::{run, run_residuals};
+use differential::{run, run_loads, run_residuals};
 
 const COUNT: u64 = 600;
 const RESIDUALS: u64 = 4000;
+const DRAWN: u64 = 2000;
 
 #[test]
 fn no_other_difference() {
@@ -24,6 +25,20 @@ fn every_residual_answer() {
     let text = report.to_string();
     let counts = text.lines().filter(|line| line.starts_with("residual"));
     assert_eq!(counts.clone().count(), 10, "{report}");
+    for count in counts {
+        assert!(!count.ends_with(": 0"), "{count}");
+    }
+}
+
+/// A run of loads meets formulas of the greatest length.
+#[test]
+fn loads() {
+    let report = run_loads(1, DRAWN);
+    assert_eq!(report.others(), 0, "{report}");
+    assert!(report.of_kind(Kind::DrawnLoad) > 0);
+    let text = report.to_string();
+    let counts = text.lines().filter(|line| line.starts_with("drawn: "));
+    assert_eq!(counts.clone().count(), 2, "{report}");
     for count in counts {
         assert!(!count.ends_with(": 0"), "{count}");
     }

@@ -4,9 +4,11 @@
 mod banks;
 mod formulas;
 mod indexes;
+mod loads;
 mod searches;
 mod words;
 
+pub use loads::draw;
 pub use searches::residual;
 
 use oracle::inputs::Inputs;
@@ -28,6 +30,7 @@ pub fn compare(inputs: &mut Inputs, report: &mut Report) {
         searches::product(inputs, report);
         searches::residual(inputs, report);
         formulas::compare(inputs, report);
+        loads::draw(inputs, report);
     }
     words::compare(inputs, report);
 }

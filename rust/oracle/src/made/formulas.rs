@@ -3,6 +3,7 @@
 use crate::access::Formula;
 use crate::inputs::Inputs;
 use crate::spec::formulas::{CONSTANT, GATES, NEG, NOT, VARIABLE};
+use crate::spec::load::{self, Choices};
 
 /// Where a gate's operands get their tokens.
 #[derive(Clone, Copy)]
@@ -28,6 +29,16 @@ impl Maker<'_> {
         let mut formula = Formula::default();
         self.grow(&mut formula, count, lean);
         formula
+    }
+
+    /// A formula of the test load: 1 to `limit` tokens, constants below 2^width.
+    pub fn drawn(&mut self, limit: u64) -> Formula {
+        let choices = Choices {
+            num_vars: self.num_vars,
+            width: self.width,
+            limit,
+        };
+        load::draw(self.inputs.word(), choices).0
     }
 
     fn grow(&mut self, formula: &mut Formula, count: usize, lean: Lean) {
