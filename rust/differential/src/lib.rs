@@ -11,6 +11,7 @@ mod formulas;
 mod indexes;
 mod listings;
 mod loads;
+pub mod program;
 mod refused;
 pub mod report;
 mod residuals;

@@ -3,13 +3,17 @@
 //! round again. `differential SEED loads COUNT`, `SEED loads round NUMBER`: the same of formulas drawn for the test load.
 //! Exit status 1 where a result differs in a way that docs/DIFFERENCES.md doesn't have.
 //! `differential answers NAME`: the data file of that name of crates/compare/data, the originals' answers for the program that compares.
+//! `differential program PATH`: the load program at PATH, over a pipe, beside the plain statement of what it prints, byte by byte;
+//! `differential load`: that statement as a program.
 //! `differential differences`: where the originals' search differs from the specification, for a reader.
 
 use std::env;
-use std::io::{self, Write};
+use std::io::{self, BufWriter, Read, Write};
 use std::process::ExitCode;
 
+use differential::program;
 use differential::report::Report;
+use oracle::spec::load;
 use oracle::{answers, differences};
 
 fn main() -> ExitCode {
@@ -22,13 +26,15 @@ fn main() -> ExitCode {
         ["answers", name] => {
             answers::data_file(name).map_or_else(usage, |bytes| print_bytes(&bytes))
         }
+        ["program", path, ref words @ ..] => told_program(&program::compare(path, words)),
+        ["load"] => print_load().map_or(ExitCode::FAILURE, |()| ExitCode::SUCCESS),
         ref words => asked(words).map_or_else(usage, |report| told(&report)),
     }
 }
 
 fn usage() -> ExitCode {
     eprintln!(
-        "usage: differential SEED [residuals|loads] COUNT | SEED [residuals|loads] round NUMBER | answers {} | differences",
+        "usage: differential SEED [residuals|loads] COUNT | SEED [residuals|loads] round NUMBER | answers {} | differences | program PATH | load",
         answers::NAMES.join("|")
     );
     ExitCode::from(2)
@@ -38,6 +44,20 @@ fn print_bytes(bytes: &[u8]) -> ExitCode {
     let mut output = io::stdout().lock();
     output.write_all(bytes).expect("standard output takes all");
     ExitCode::SUCCESS
+}
+
+fn told_program(tally: &program::Tally) -> ExitCode {
+    print!("{tally}");
+    ExitCode::from(u8::from(!tally.differences.is_empty()))
+}
+
+/// What the load program must print of standard input, up to a reader that has enough.
+fn print_load() -> io::Result<()> {
+    let mut text = Vec::new();
+    io::stdin().lock().read_to_end(&mut text)?;
+    let mut output = BufWriter::new(io::stdout().lock());
+    load::printed(&text).try_for_each(|line| output.write_all(line.as_bytes()))?;
+    output.flush()
 }
 
 fn told(report: &Report) -> ExitCode {
