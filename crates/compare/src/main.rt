@@ -1,6 +1,6 @@
 // The comparing program: reads each data file that its arguments name, asks our own calls for each line's answer, and writes
-// how many answers it compared and how many differ. A line that differs is named on standard error. After a line of kind 20 come
-// the bytes of a case, which isn't made of lines.
+// how many answers it compared and how many differ. A line that differs is named on standard error. After a line of kind 20 or
+// 25 come the bytes of a case, which isn't made of lines.
 use compare_lines::inner::scan;
 use compare_lines::inner::scan::Scan;
 use compare_listings::Case;
@@ -69,6 +69,8 @@ fn line_same(line: &[u64]) -> bool {
         21 => compare_residuals::residual_same(line),
         22 => compare_residuals::residual_refusal_same(line),
         23 => compare_residuals::lent_residual_same(line),
+        24 => compare_loads::draw_same(line),
+        25 => compare_listings::head_same(line),
         _ => false,
     }
 }

@@ -4,6 +4,8 @@ pub mod inner;
 ghost use Prim.Native.Nat.{_≤_};
 
 // What the lent arrays hold before a call. Places beyond the counts must hold it after.
+pub const OLD_BYTE: u8 = 0xa5;
+
 pub const OLD_HALF: u32 = 0xa5a5_a5a5;
 
 pub const OLD_WORD: u64 = 0xa5a5_a5a5_5a5a_5a5a;
@@ -38,6 +40,11 @@ pub fn first_words(s: &[u64], n: u64) -> &[u64] {
     &s[..end]
 }
 
+pub fn first_bytes_mut(s: &mut [u8], n: u64) -> &mut [u8] {
+    let end = least(n, s.len());
+    &mut s[..end]
+}
+
 pub fn first_halves_mut(s: &mut [u32], n: u64) -> &mut [u32] {
     let end = least(n, s.len());
     &mut s[..end]
@@ -49,7 +56,7 @@ pub fn first_words_mut(s: &mut [u64], n: u64) -> &mut [u64] {
 }
 
 // The element at a place, 0 past the end.
-fn byte_at(s: &[u8], at: usize) -> u64 {
+pub fn byte_at(s: &[u8], at: usize) -> u64 {
     if at < s.len() { byte_word(s[at]) } else { 0 }
 }
 

@@ -1,8 +1,12 @@
-// The cases of crates/compare/data/listings.txt: a line `20 A B`, then A bytes of a text, B bytes that the listing program must print of it, and a line end.
+// The cases of crates/compare/data/listings.txt and of loads.txt: a line `20 A B` or `25 A B`, then A bytes of a text, B bytes that the listing program, or the load
+// program, must print of it, and a line end.
 use listing::ListingAnswer;
 use text_parse::Parse;
 
-const KIND: u64 = 20;
+// The kinds, one for each program.
+const LISTING: u64 = 20;
+
+const LOAD: u64 = 25;
 
 // The longest text in a file, and the most that is printed.
 const TEXT_MAX: u64 = 0x100_0000;
@@ -12,12 +16,14 @@ pub const PRINTED_MAX: usize = 131072;
 // Where a case stands.
 pub struct Case {
     pub open: bool,
-    // the number of its line `20 A B`
+    // which program's
+    pub kind: u64,
+    // the number of its line
     pub line: u64,
     // bytes of the text that are to come
     pub text_left: u64,
     pub parse: Parse,
-    // the listing of the text is in the buffer
+    // what the program prints of the text is in the buffer
     pub written: bool,
     // bytes that must be printed, and how many of them have come
     pub expected: usize,
@@ -26,10 +32,15 @@ pub struct Case {
     pub same: bool,
 }
 
+fn is_kind(kind: u64) -> bool {
+    kind == LISTING || kind == LOAD
+}
+
 // No case.
 pub fn none() -> Case {
     Case {
         open: false,
+        kind: 0,
         line: 0,
         text_left: 0,
         parse: text_parse::begin(),
@@ -40,12 +51,12 @@ pub fn none() -> Case {
     }
 }
 
-// 20 A B
+// 20 A B or 25 A B
 pub fn head_same(line: &[u64]) -> bool {
     if line.len() != 3 {
         return false;
     }
-    if line[0] != KIND {
+    if !is_kind(line[0]) {
         return false;
     }
     if TEXT_MAX < line[1] {
@@ -64,6 +75,7 @@ pub fn begin(line: &[u64], number: u64) -> Case {
         return c;
     }
     c.open = true;
+    c.kind = line[0];
     c.line = number;
     c.text_left = line[1];
     c.expected = line[2] as usize;
@@ -81,8 +93,25 @@ fn feed_text(mut c: Case, byte: u8) -> Case {
     c
 }
 
-// The text is at its end: its listing.
-fn write(out: &mut [u8], mut c: Case) -> Case {
+// The text is at its end: what the program prints of it.
+fn write(out: &mut [u8], c: Case) -> Case {
+    if c.kind == LOAD {
+        return write_load(out, c);
+    }
+    write_listing(out, c)
+}
+
+// The load that the text asks for, whole: the buffer has room for all that is expected and a line more.
+fn write_load(out: &mut [u8], mut c: Case) -> Case {
+    c.written = true;
+    let part = load_text::write_some(out, load_text::start(c.parse));
+    let whole = part.refusal == 0 && load_text::left(part.load) == 0;
+    c.same = whole && part.length == c.expected;
+    c
+}
+
+// The listing that the text asks for.
+fn write_listing(out: &mut [u8], mut c: Case) -> Case {
     c.written = true;
     let answer = listing::write_listing(out, c.parse);
     match answer {
