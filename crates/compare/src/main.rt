@@ -3,7 +3,7 @@
 // 25 come the bytes of a case, which isn't made of lines.
 use compare_lines::inner::scan;
 use compare_lines::inner::scan::Scan;
-use compare_listings::Case;
+use compare_texts::Case;
 ghost use Prim.Native.Nat.{_≤_};
 ghost use lib.ListN.{length};
 
@@ -65,12 +65,12 @@ fn line_same(line: &[u64]) -> bool {
         16 => compare_products::product_same(line),
         17 => compare_products::product_refusal_same(line),
         18 => compare_candidates::candidates_refusal_same(line),
-        20 => compare_listings::head_same(line),
+        20 => compare_texts::head_same(line),
         21 => compare_residuals::residual_same(line),
         22 => compare_residuals::residual_refusal_same(line),
         23 => compare_residuals::lent_residual_same(line),
         24 => compare_loads::draw_same(line),
-        25 => compare_listings::head_same(line),
+        25 => compare_texts::head_same(line),
         _ => false,
     }
 }
@@ -111,10 +111,10 @@ fn case_of(numbers: &[u64], s: Scan, line: u64) -> Case
     requires { ⌜ s .count ≤ length (now numbers) ⌝ }
 {
     if s.bad {
-        return compare_listings::none();
+        return compare_texts::none();
     }
     let count = s.count;
-    compare_listings::begin(&numbers[..count], line)
+    compare_texts::begin(&numbers[..count], line)
 }
 
 // A case at its end, or at the file's.
@@ -133,7 +133,7 @@ fn feed_case(out: &mut [u8], c: Case, mut t: Tally, byte: u8) -> Progress
     if byte == b'\n' {
         t.lines = one_more(t.lines);
     }
-    let case = compare_listings::feed(out, c, byte);
+    let case = compare_texts::feed(out, c, byte);
     if !case.open {
         t = settle_case(case, t);
     }
@@ -254,10 +254,10 @@ fn end_file(numbers: &mut [u64], out: &mut [u8], p: Progress) -> Tally
 fn compare_file(fd: i32, mut t: Tally) -> Tally {
     t.lines = 0;
     let mut numbers = [0u64; LINE_NUMBERS];
-    let mut out = [0u8; compare_listings::PRINTED_MAX];
+    let mut out = [0u8; compare_texts::PRINTED_MAX];
     let p = Progress {
         scan: Scan::new(),
-        case: compare_listings::none(),
+        case: compare_texts::none(),
         tally: t,
         state: 0,
     };
