@@ -86,29 +86,30 @@ start-owes text = start-by (readText loadMany text)
 
 -- ---- a call
 module _ (nv w limit : ℕ) where
+  -- the first line from state s on, and the state after it
+  abbrev line : ℕ → List ℕ
+  line s = formulaLine (formulaFrom nv w limit s .form)
+
+  abbrev next : ℕ → ℕ
+  next s = formulaFrom nv w limit s .state
+
   -- the lines that a call writes, and those left
   lines-split : (room n s : ℕ) → let f = linesIn nv w limit room n s in linesFrom nv w limit n s ≡ f .text ++ linesFrom nv w limit (f .left) (f .state)
   lines-split room zero s = sym (ap (λ (f : Lines). f .text ++ linesFrom nv w limit (f .left) (f .state)) (in-none nv w limit room 0 s refl))
-  lines-split room (suc n) s = go (le-or-lt lineMax room) (lines-split (room - length line) n next)
+  lines-split room (suc n) s = go (le-or-lt lineMax room) (lines-split (room - length (line s)) n (next s))
     where
-      abbrev line : List ℕ
-      line = formulaLine (formulaFrom nv w limit s .form)
-
-      abbrev next : ℕ
-      next = formulaFrom nv w limit s .state
-
-      go : (lineMax ≤ room) ⊎ (room < lineMax) → (let f = linesIn nv w limit (room - length line) n next in linesFrom nv w limit n next ≡ f .text ++ linesFrom nv w limit (f .left) (f .state))
+      go : (lineMax ≤ room) ⊎ (room < lineMax) → (let f = linesIn nv w limit (room - length (line s)) n (next s) in linesFrom nv w limit n (next s) ≡ f .text ++ linesFrom nv w limit (f .left) (f .state))
           → let f = linesIn nv w limit room (suc n) s in linesFrom nv w limit (suc n) s ≡ f .text ++ linesFrom nv w limit (f .left) (f .state)
       go (inr h) more = sym (ap (λ (f : Lines). f .text ++ linesFrom nv w limit (f .left) (f .state)) (in-short nv w limit room (suc n) s h))
       go (inl h) more =
           let one : suc n - 1 ≡ n = omega arith in
           lines-more nv w limit n s
-          ∙ ap (λ (t : List ℕ). line ++ t) more
-          ∙ sym (append-assoc line (linesIn nv w limit (room - length line) n next .text) _)
-          ∙ sym (ap (λ (f : Lines). f .text ++ linesFrom nv w limit (f .left) (f .state)) (in-more nv w limit room (suc n) s h (omega arith) ∙ ap (λ (k : ℕ). after line (linesIn nv w limit (room - length line) k next)) one))
+          ∙ ap (λ (t : List ℕ). line s ++ t) more
+          ∙ sym (append-assoc (line s) (linesIn nv w limit (room - length (line s)) n (next s) .text) _)
+          ∙ sym (ap (λ (f : Lines). f .text ++ linesFrom nv w limit (f .left) (f .state)) (in-more nv w limit room (suc n) s h (omega arith) ∙ ap (λ (k : ℕ). after (line s) (linesIn nv w limit (room - length (line s)) k (next s))) one))
 
 pub owed-on : (l : Load) (room : ℕ) → 0 < l .left → owed l ≡ partOf l room .text ++ owed (partOf l room .load)
-owed-on l room some = go (le-or-lt 1 (l .number)) (le-or-lt 1 (loadRefusal (l .nv) (l .w) (l .limit)))
+owed-on l room left = go (le-or-lt 1 (l .number)) (le-or-lt 1 (loadRefusal (l .nv) (l .w) (l .limit)))
   where
     by : {p : Part} → partOf l room ≡ p → owed l ≡ p .text ++ owed (p .load) → owed l ≡ partOf l room .text ++ owed (partOf l room .load)
     by e h = h ∙ sym (ap (λ (p : Part). p .text ++ owed (p .load)) e)
@@ -117,14 +118,14 @@ owed-on l room some = go (le-or-lt 1 (l .number)) (le-or-lt 1 (loadRefusal (l .n
     nothing t = sym (ap (λ (x : List ℕ). t ++ x) (owed-none (bareLoad 0 0) refl) ∙ append-nil t)
 
     go : (1 ≤ l .number) ⊎ (l .number < 1) → (1 ≤ loadRefusal (l .nv) (l .w) (l .limit)) ⊎ (loadRefusal (l .nv) (l .w) (l .limit) < 1) → owed l ≡ partOf l room .text ++ owed (partOf l room .load)
-    go (inl h) k = by (part-told l room some h) (owed-told l some h ∙ nothing (refusedLine (l .number)))
-    go (inr h) (inl k) = let none : l .number ≡ 0 = omega (arith, h) in by (part-unfit l room some none k) (owed-unfit l some none k ∙ nothing [])
+    go (inl h) k = by (part-told l room left h) (owed-told l left h ∙ nothing (refusedLine (l .number)))
+    go (inr h) (inl k) = let untold : l .number ≡ 0 = omega (arith, h) in by (part-unfit l room left untold k) (owed-unfit l left untold k ∙ nothing [])
     go (inr h) (inr k) =
-        let none : l .number ≡ 0 = omega (arith, h) in
+        let untold : l .number ≡ 0 = omega (arith, h) in
         let fits : loadRefusal (l .nv) (l .w) (l .limit) ≡ 0 = omega (arith, k) in
         let f = linesIn (l .nv) (l .w) (l .limit) room (l .left) (l .state) in
-        by (part-lines l room some none fits)
-        (owed-lines l none fits
+        by (part-lines l room left untold fits)
+        (owed-lines l untold fits
         ∙ lines-split (l .nv) (l .w) (l .limit) room (l .left) (l .state)
         ∙ ap (λ (x : List ℕ). f .text ++ x) (sym (owed-lines (further l (f .left) (f .state)) refl fits)))
 
@@ -147,23 +148,17 @@ buffer-after-buffer l (room ∷ more) long few = go (le-or-lt 1 (l .left)) (buff
 module _ (nv w limit : ℕ) (least : 1 ≤ limit) (most : limit ≤ 64) where
   lines-fit : (room n s : ℕ) → length (linesIn nv w limit room n s .text) ≤ room
   lines-fit room zero s = omega (arith, ap (λ (f : Lines). length (f .text)) (in-none nv w limit room 0 s refl))
-  lines-fit room (suc n) s = go (le-or-lt lineMax room) (lines-fit (room - length line) n next)
+  lines-fit room (suc n) s = go (le-or-lt lineMax room) (lines-fit (room - length (line nv w limit s)) n (next nv w limit s))
     where
-      abbrev line : List ℕ
-      line = formulaLine (formulaFrom nv w limit s .form)
-
-      abbrev next : ℕ
-      next = formulaFrom nv w limit s .state
-
-      go : (lineMax ≤ room) ⊎ (room < lineMax) → length (linesIn nv w limit (room - length line) n next .text) ≤ room - length line → length (linesIn nv w limit room (suc n) s .text) ≤ room
+      go : (lineMax ≤ room) ⊎ (room < lineMax) → length (linesIn nv w limit (room - length (line nv w limit s)) n (next nv w limit s) .text) ≤ room - length (line nv w limit s) → length (linesIn nv w limit room (suc n) s .text) ≤ room
       go (inr h) more = omega (arith, ap (λ (f : Lines). length (f .text)) (in-short nv w limit room (suc n) s h))
       go (inl h) more =
           let one : suc n - 1 ≡ n = omega arith in
-          let e = ap (λ (f : Lines). length (f .text)) (in-more nv w limit room (suc n) s h (omega arith) ∙ ap (λ (k : ℕ). after line (linesIn nv w limit (room - length line) k next)) one) in
+          let e = ap (λ (f : Lines). length (f .text)) (in-more nv w limit room (suc n) s h (omega arith) ∙ ap (λ (k : ℕ). after (line nv w limit s) (linesIn nv w limit (room - length (line nv w limit s)) k (next nv w limit s))) one) in
           omega (
             arith,
             e,
-            length-append line (linesIn nv w limit (room - length line) n next .text),
+            length-append (line nv w limit s) (linesIn nv w limit (room - length (line nv w limit s)) n (next nv w limit s) .text),
             line-length (formulaFrom nv w limit s .form),
             form-most nv w limit s least,
             more,

@@ -4,10 +4,11 @@ use mathlib.Core.Bool.{true, false}
 use mathlib.Core.Logic.{_⊎_, inl, inr}
 use mathlib.Core.List.{List, [], _∷_}
 use Prim.Native.Nat.{ℕ, zero, suc, _+_, _-_, _%_, _^_, _≤_, _<_}
-use native.Mathlib.Nat.{mod-lt, pow-pos}
+use native.Mathlib.Nat.{mod-lt}
 use native.Mathlib.Omega.{arith}
 use borrow.Author.Tests.{lt-ltb, le-leb}
 use lib.ListN.{length, getD}
+use lib.Pow.{pow-pos}
 use Rattle.arrays.specs.Lists.{countUp, In, keep}
 use Rattle.arrays.proofs.Lists.{in-at, in-up, up-in, keep-in, in-keep}
 use Rattle.limits.specs.Refusal.{outsideOf, badCount}
@@ -102,7 +103,7 @@ length-drawn nv w limit s = form-length nv w limit s
 -- a constant that is drawn is below 2^w
 constant-below : (nv w o s k : ℕ) → o < 9 → Constant k ≡ tokenFrom nv w o s → k < 2 ^ w
 unfolding tokenFrom
-constant-below nv w zero s k h e = omega (arith, ap operandOf e, mod-lt (drawnWord s) (pow-pos {m = 2} w))
+constant-below nv w zero s k h e = omega (arith, ap operandOf e, mod-lt (drawnWord s) (pow-pos w))
 constant-below nv w (suc o) s k h e = absurd (omega (arith, ap opcodeOf e, token-opcode nv w (suc o) s h))
 
 rest-reduced : (nv w n d s k : ℕ) → d ≤ n + 1 → In (Constant k) (restFrom nv w n d s .form) → k < 2 ^ w
@@ -125,19 +126,27 @@ unfolding formulaFrom
 constants-reduced nv w limit s k i = rest-reduced nv w (1 + drawnWord s % limit) 0 (nextState s) k (omega arith) i
 
 -- ---- how many draws
+once : (n s : ℕ) → nextState s ≡ stateAfter (suc n - n) s
+unfolding stateAfter
+once n s = let e : 1 ≡ suc n - n = omega arith in ap (λ (k : ℕ). stateAfter k s) e
+
+never : (n s : ℕ) → s ≡ stateAfter (n - n) s
+unfolding stateAfter
+never n s = let e : 0 ≡ n - n = omega arith in ap (λ (k : ℕ). stateAfter k s) e
+
 -- after the opcode a leaf draws once more, any other token not
 token-draws : (nv w o s : ℕ) (ts : List Token) → stateFrom o s ≡ stateAfter (leaves (tokenFrom nv w o s ∷ ts) - leaves ts) s
 unfolding stateFrom tokenFrom tokenOf leaves stateAfter
-token-draws nv w zero s ts = ap (λ (n : ℕ). stateAfter n s) {x = 1} (omega arith)
-token-draws nv w (suc zero) s ts = ap (λ (n : ℕ). stateAfter n s) {x = 1} (omega arith)
-token-draws nv w (suc (suc zero)) s ts = ap (λ (n : ℕ). stateAfter n s) {x = 0} (omega arith)
-token-draws nv w (suc (suc (suc zero))) s ts = ap (λ (n : ℕ). stateAfter n s) {x = 0} (omega arith)
-token-draws nv w (suc (suc (suc (suc zero)))) s ts = ap (λ (n : ℕ). stateAfter n s) {x = 0} (omega arith)
-token-draws nv w (suc (suc (suc (suc (suc zero))))) s ts = ap (λ (n : ℕ). stateAfter n s) {x = 0} (omega arith)
-token-draws nv w (suc (suc (suc (suc (suc (suc zero)))))) s ts = ap (λ (n : ℕ). stateAfter n s) {x = 0} (omega arith)
-token-draws nv w (suc (suc (suc (suc (suc (suc (suc zero))))))) s ts = ap (λ (n : ℕ). stateAfter n s) {x = 0} (omega arith)
-token-draws nv w (suc (suc (suc (suc (suc (suc (suc (suc zero)))))))) s ts = ap (λ (n : ℕ). stateAfter n s) {x = 0} (omega arith)
-token-draws nv w (suc (suc (suc (suc (suc (suc (suc (suc (suc o))))))))) s ts = ap (λ (n : ℕ). stateAfter n s) {x = 0} (omega arith)
+token-draws nv w zero s ts = once (leaves ts) s
+token-draws nv w (suc zero) s ts = once (leaves ts) s
+token-draws nv w (suc (suc zero)) s ts = never (leaves ts) s
+token-draws nv w (suc (suc (suc zero))) s ts = never (leaves ts) s
+token-draws nv w (suc (suc (suc (suc zero)))) s ts = never (leaves ts) s
+token-draws nv w (suc (suc (suc (suc (suc zero))))) s ts = never (leaves ts) s
+token-draws nv w (suc (suc (suc (suc (suc (suc zero)))))) s ts = never (leaves ts) s
+token-draws nv w (suc (suc (suc (suc (suc (suc (suc zero))))))) s ts = never (leaves ts) s
+token-draws nv w (suc (suc (suc (suc (suc (suc (suc (suc zero)))))))) s ts = never (leaves ts) s
+token-draws nv w (suc (suc (suc (suc (suc (suc (suc (suc (suc o))))))))) s ts = never (leaves ts) s
 
 leaves-least : (t : Token) (ts : List Token) → leaves ts ≤ leaves (t ∷ ts)
 unfolding leaves
@@ -150,24 +159,27 @@ leaves-least Bad ts = omega arith
 
 after-add : (n m s : ℕ) → stateAfter n (stateAfter m s) ≡ stateAfter (m + n) s
 unfolding stateAfter
-after-add n zero s = ap (λ (k : ℕ). stateAfter k s) (omega arith)
-after-add n (suc m) s = after-add n m (nextState s) ∙ ap (λ (k : ℕ). stateAfter k s) {x = suc (m + n)} (omega arith)
+after-add n zero s = let e : n ≡ zero + n = omega arith in ap (λ (k : ℕ). stateAfter k s) e
+after-add n (suc m) s = let e : suc (m + n) ≡ suc m + n = omega arith in after-add n m (nextState s) ∙ ap (λ (k : ℕ). stateAfter k s) e
 
 rest-draws : (nv w n d s : ℕ) → restFrom nv w n d s .state ≡ stateAfter (n + leaves (restFrom nv w n d s .form)) s
 unfolding restFrom leaves stateAfter
-rest-draws nv w zero d s = ap (λ (k : ℕ). stateAfter k s) {x = 0} (omega arith)
+rest-draws nv w zero d s = let e : 0 ≡ zero + 0 = omega arith in ap (λ (k : ℕ). stateAfter k s) e
 rest-draws nv w (suc r) d s =
     let o = pickedBy d r (drawnWord s) in
     let t = tokenFrom nv w o (nextState s) in
     let ts = restFrom nv w r (d - takes o + 1) (stateFrom o (nextState s)) .form in
+    let all : suc (leaves (t ∷ ts) - leaves ts + (r + leaves ts)) ≡ suc r + leaves (t ∷ ts) = omega (arith, leaves-least t ts) in
     rest-draws nv w r (d - takes o + 1) (stateFrom o (nextState s))
     ∙ ap (stateAfter (r + leaves ts)) (token-draws nv w o (nextState s) ts)
     ∙ after-add (r + leaves ts) (leaves (t ∷ ts) - leaves ts) (nextState s)
-    ∙ ap (λ (k : ℕ). stateAfter k s) {x = suc (leaves (t ∷ ts) - leaves ts + (r + leaves ts))} (omega (arith, leaves-least t ts))
+    ∙ ap (λ (k : ℕ). stateAfter k s) all
 
 pub one-draw-for-each-choice : OneDrawForEachChoice
 unfolding formulaFrom stateAfter
 one-draw-for-each-choice nv w limit s =
+    let ts : List Token = formulaFrom nv w limit s .form in
+    let one : suc (length ts + leaves ts) ≡ 1 + (length ts + leaves ts) = omega arith in
     rest-draws nv w (1 + drawnWord s % limit) 0 (nextState s)
     ∙ ap (λ (k : ℕ). stateAfter (k + leaves (formulaFrom nv w limit s .form)) (nextState s)) (sym (form-length nv w limit s))
-    ∙ ap (λ (k : ℕ). stateAfter k s) {x = suc (length (formulaFrom nv w limit s .form) + leaves (formulaFrom nv w limit s .form))} (omega arith)
+    ∙ ap (λ (k : ℕ). stateAfter k s) one
