@@ -55,8 +55,8 @@ load-is-calls nv w limit (suc n) s ops operands none =
     let x = formulaFrom nv w limit s in
     ap (λ (c : Called). before c (callsFrom nv w limit n (c .ops) (c .operands) (c .answer .state))) (call-is nv w limit s ops operands none)
     ∙ ap₂ (λ (ts : List Token) (more : Loaded). record { forms = ts ∷ more .forms; state = more .state })
-      (call-form nv w limit s ops operands none)
-      (load-is-calls nv w limit n (x .state) (laid (map opcodeOf (x .form)) ops) (laid (map operandOf (x .form)) operands) (call-again nv w limit s ops operands none))
+    (call-form nv w limit s ops operands none)
+    (load-is-calls nv w limit n (x .state) (laid (map opcodeOf (x .form)) ops) (laid (map operandOf (x .form)) operands) (call-again nv w limit s ops operands none))
 
 pub same-load : SameLoad
 same-load nv w limit n s ops operands ops₂ operands₂ a b = load-is-calls nv w limit n s ops operands a ∙ sym (load-is-calls nv w limit n s ops₂ operands₂ b)

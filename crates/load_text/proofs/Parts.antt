@@ -81,11 +81,11 @@ pub part-fewer : (l : Load) (room : ℕ) → lineMax ≤ room → 0 < l .left �
 part-fewer l room long some = elim (le-or-lt 1 (l .number)) [
   | inl h ↦ by (part-told l room some h) some
   | inr h ↦
-    let none : l .number ≡ 0 = omega (arith, h) in
-    elim (le-or-lt 1 (loadRefusal (l .nv) (l .w) (l .limit))) [
-      | inl k ↦ by (part-unfit l room some none k) some
-      | inr k ↦ by (part-lines l room some none (omega (arith, k))) (in-fewer (l .nv) (l .w) (l .limit) room (l .left) (l .state) long some)
-    ]
+      let none : l .number ≡ 0 = omega (arith, h) in
+      elim (le-or-lt 1 (loadRefusal (l .nv) (l .w) (l .limit))) [
+        | inl k ↦ by (part-unfit l room some none k) some
+        | inr k ↦ by (part-lines l room some none (omega (arith, k))) (in-fewer (l .nv) (l .w) (l .limit) room (l .left) (l .state) long some)
+      ]
 ]
   where
     by : {p : Part} → partOf l room ≡ p → p .load .left < l .left → partOf l room .load .left < l .left

@@ -102,12 +102,7 @@ pub fn write_fit(out: &mut [u8], load: Load) -> LoadPart
 }
 
 // Line after line, as long as one is left and the buffer has room for the longest.
-fn write_lines(
-    out: &mut [u8],
-    ops: &mut [u8],
-    operands: &mut [u64],
-    load: Load,
-) -> LoadPart
+fn write_lines(out: &mut [u8], ops: &mut [u8], operands: &mut [u64], load: Load) -> LoadPart
     requires { ⌜ (lineMax ≤ length (now out)) × Ready (load .nv) (load .w) (load .limit) (now ops) (now operands) ⌝ }
     ensures { λ r. ⌜ WroteLines load (now (out .entry)) (now (out .exit)) r ⌝ }
 {

@@ -4,6 +4,7 @@ use expr_cost::Cost;
 use listing::ListingAnswer;
 use simjaldek_abi::CostReply;
 use simjaldek_abi::DrawReply;
+use simjaldek_abi::FormulaReply;
 use simjaldek_abi::PointsReply;
 use simjaldek_abi::Reply;
 use simjaldek_abi::ResidualReply;
@@ -23,6 +24,7 @@ ghost use Rattle.expr.specs.Formula.{tokenAt, tokens, isFormula};
 ghost use Rattle.expr_eval.specs.Answers.{evaluated};
 ghost use Rattle.expr_cost.specs.Answers.{costed};
 ghost use Rattle.expr_cost.specs.Cost.{isBetter};
+ghost use Rattle.load_draw.specs.Draw.{called};
 ghost use Rattle.probe_points.specs.Points.{drawn, madePoints};
 ghost use Rattle.probe.specs.FormulaRow.{probed};
 ghost use Rattle.row_fingerprint.specs.Fingerprint.{fingerprintOf};
@@ -32,7 +34,7 @@ ghost use Rattle.index.specs.Build.{arraysOf};
 ghost use Rattle.search_product.specs.Answer.{product};
 ghost use Rattle.search_residual.specs.Answer.{completion};
 ghost use Rattle.simjaldek_abi.specs.Slices.{rowIn, shortRow, rowRefusal, pointsIn, pointsRefusal, twoShort, threeShort, gateRefusal};
-ghost use Rattle.simjaldek_abi.specs.Reply.{orElse, rowOrElse, wordReply, costReply, pointsReply, drawReply, costFrom, markOf, matchReply, optionReply, numberReply, productReply, residualReply, tokenReply};
+ghost use Rattle.simjaldek_abi.specs.Reply.{orElse, rowOrElse, wordReply, costReply, pointsReply, drawReply, costFrom, markOf, matchReply, optionReply, numberReply, productReply, residualReply, tokenReply, formulaReply};
 ghost use Rattle.simjaldek.specs.Beside.{Indexed, Listed, BankReplied, Texted};
 
 // `search_product::product_search`: kind 0 nothing, 1 the atoms a and b, 2 the atom a and the pair b. Refuses 2, 4, 5, 7, 8.
@@ -250,6 +252,28 @@ pub extern "C" fn simjaldek_compute_cost(
         size: x.cost.size,
         products: x.cost.products,
         depth: x.cost.depth,
+    }
+}
+
+// `load_draw::draw_formula`: the tokens drawn stand in the arrays. Refuses 1, 2, 4, and 6 for a limit that isn't 1 to 64.
+#[no_mangle]
+pub extern "C" fn simjaldek_draw_formula(
+    ops: &mut [u8],
+    operands: &mut [u64],
+    state: u64,
+    nv: u32,
+    w: u32,
+    limit: usize,
+) -> FormulaReply
+    ensures { λ r. ⌜ r ≡ formulaReply (called state nv w limit (now (ops .entry)) (now (operands .entry)) .answer) ⌝ }
+    ensures { λ r. ⌜ now (ops .exit) ≡ called state nv w limit (now (ops .entry)) (now (operands .entry)) .ops ⌝ }
+    ensures { λ r. ⌜ now (operands .exit) ≡ called state nv w limit (now (ops .entry)) (now (operands .entry)) .operands ⌝ }
+{
+    let x = load_draw::draw_formula(ops, operands, state, nv, w, limit);
+    FormulaReply {
+        refusal: x.refusal,
+        count: x.count,
+        state: x.state,
     }
 }
 

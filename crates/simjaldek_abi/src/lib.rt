@@ -77,3 +77,11 @@ pub struct TextReply {
     pub refusal: u32,
     pub length: usize,
 }
+
+// How many tokens were drawn, and the state handed on; no token and the state as it was beside a refusal.
+#[repr(C)]
+pub struct FormulaReply {
+    pub refusal: u32,
+    pub count: usize,
+    pub state: u64,
+}
