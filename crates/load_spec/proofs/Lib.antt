@@ -3,3 +3,4 @@ pub mod Machine
 pub mod Formulas
 pub mod Loads
 pub mod Buffers
+pub mod Worked

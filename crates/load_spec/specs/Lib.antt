@@ -2,3 +2,4 @@
 pub mod Formulas
 pub mod Loads
 pub mod Buffers
+pub mod Cases
