@@ -4,14 +4,13 @@ use mathlib.Core.Bool.{true}
 use mathlib.Core.List.{List, [], _∷_, _++_, map, map-append, append-nil}
 use Prim.Native.Nat.{ℕ, zero, suc, _+_, _-_, _%_, _^_, _≤_, _<_}
 use native.Mathlib.Nat.{mod-lt, pos-of-ne-zero}
-use native.Mathlib.Numerals.{add-one}
 use native.Mathlib.Omega.{arith}
 use lib.ListN.{length, set, drop, getD, length-map, length-append}
 use lib.Seq.{set-at, append-snoc, drop-cons}
 use Rattle.limits.specs.Refusal.{unlessRefused}
 use Rattle.limits.proofs.Refusals.{unless-refused}
 use Rattle.probe_points.specs.declared.Draw.{Draw}
-use Rattle.probe_points.specs.Points.{nextState, wordOf, drawn}
+use Rattle.probe_points.specs.Points.{nextState, drawn}
 use Rattle.expr.specs.declared.Token.{Token}
 use Rattle.expr.specs.Formula.{tokenOf, arity, opcodeOf, operandOf, tokens}
 use Rattle.expr.proofs.Tokens.{tokens-back}

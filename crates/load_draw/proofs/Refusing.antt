@@ -7,7 +7,7 @@ use native.Mathlib.Omega.{arith}
 use borrow.Author.Tests.{ltb-false, le-ltb}
 use lib.Dec.{ltb}
 use lib.ListN.{length}
-use Rattle.limits.specs.Refusal.{refuse, badCount, badWidth}
+use Rattle.limits.specs.Refusal.{badCount, badWidth}
 use Rattle.limits.proofs.Refusals.{refused-here, refused-later, or-later, passed, within, inside, neither}
 use Rattle.expr.specs.Answers.{tooShort}
 use Rattle.load_draw.specs.Draw.{badLimit, drawRefusal}

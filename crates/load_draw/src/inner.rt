@@ -2,12 +2,11 @@
 use crate::DrawnFormula;
 use expr::MAX_TOKENS;
 ghost use mathlib.Core.Path.{_≡_};
-ghost use mathlib.Core.Bool.{true};
 ghost use mathlib.Core.List.{map};
 ghost use Prim.Native.Nat.{_+_, _≤_, _<_};
 ghost use lib.ListN.{length, set};
 ghost use Rattle.expr.specs.Formula.{opcodeOf, operandOf};
-ghost use Rattle.load_draw.specs.Draw.{takes, mayPick, pickedBy, tokenFrom, stateFrom, restFrom, formulaFrom, badLimit, drawRefusal, drawnOr, laid};
+ghost use Rattle.load_draw.specs.Draw.{takes, pickedBy, tokenFrom, stateFrom, restFrom, formulaFrom, badLimit, drawRefusal, drawnOr, laid};
 ghost use Rattle.load_draw.specs.Steps.{Ready};
 
 // Whether a token limit is not 1 to 64: refusal 6.

@@ -1,10 +1,10 @@
 -- The statements of specs/Buffers. Assumes nothing.
-use mathlib.Core.Path.{_≡_, refl, sym, ap, _∙_, subst}
-use mathlib.Core.Bool.{Bool, true, cond, _&&_}
+use mathlib.Core.Path.{_≡_, refl, sym, ap, _∙_}
+use mathlib.Core.Bool.{Bool, cond}
 use mathlib.Core.Logic.{_⊎_, inl, inr}
 use mathlib.Core.List.{List, [], _∷_, _++_, append-nil, append-assoc}
 use mathlib.Core.Option.{Option, none, some}
-use Prim.Native.Nat.{ℕ, zero, suc, _+_, _-_, _*_, _≤_, _<_}
+use Prim.Native.Nat.{ℕ, zero, suc, _+_, _-_, _≤_, _<_}
 use native.Mathlib.Omega.{arith}
 use borrow.Author.Tests.{lt-ltb, le-ltb, leb-true}
 use lib.Dec.{ltb, leb}
@@ -19,7 +19,7 @@ use Rattle.load_draw.specs.Draw.{formulaFrom}
 use Rattle.load_draw.proofs.Drawing.{form-most}
 use Rattle.load_text.specs.declared.Load.{Load}
 use Rattle.load_text.specs.Text.{numbersRefusal, loadRefusal, linesFrom, linesFor, loadText}
-use Rattle.load_text.specs.Writing.{lineMax, bareLoad, loadOf, startOf, further, owed, Lines, after, linesIn, linesPart, Part, partOf}
+use Rattle.load_text.specs.Writing.{lineMax, bareLoad, loadOf, startOf, further, owed, Lines, after, linesIn, Part, partOf}
 use Rattle.load_text.proofs.Refusing.{fit}
 use Rattle.load_text.proofs.Lines.{lines-none, lines-more, in-none, in-short, in-more}
 use Rattle.load_text.proofs.Parts.{part-none, part-told, part-lines, part-unfit, part-fewer}

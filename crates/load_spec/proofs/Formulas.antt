@@ -1,6 +1,6 @@
 -- The statements of specs/Formulas. Assumes nothing.
 use mathlib.Core.Path.{_≡_, refl, sym, ap, _∙_, subst}
-use mathlib.Core.Bool.{true, false}
+use mathlib.Core.Bool.{true}
 use mathlib.Core.Logic.{_⊎_, inl, inr}
 use mathlib.Core.List.{List, [], _∷_}
 use Prim.Native.Nat.{ℕ, zero, suc, _+_, _-_, _%_, _^_, _≤_, _<_}
@@ -9,19 +9,18 @@ use native.Mathlib.Omega.{arith}
 use borrow.Author.Tests.{lt-ltb, le-leb}
 use lib.ListN.{length, getD}
 use lib.Pow.{pow-pos}
-use Rattle.arrays.specs.Lists.{countUp, In, keep}
+use Rattle.arrays.specs.Lists.{countUp, In}
 use Rattle.arrays.proofs.Lists.{in-at, in-up, up-in, keep-in, in-keep}
-use Rattle.limits.specs.Refusal.{outsideOf, badCount}
 use Rattle.limits.proofs.Refusals.{within, inside, and-both}
-use Rattle.probe_points.specs.Points.{nextState, wordOf, stateAfter}
+use Rattle.probe_points.specs.Points.{nextState, stateAfter}
 use Rattle.expr.specs.declared.Token.{Token}
 use Rattle.expr.specs.declared.Token.the-variants.{Constant, Variable, Binary, Not, Neg, Bad}
-use Rattle.expr.specs.Formula.{tokenOf, arity, opcodeOf, operandOf, known, allKnown, isFormula}
+use Rattle.expr.specs.Formula.{tokenOf, arity, opcodeOf, operandOf, known}
 use Rattle.expr.proofs.Machine.{passes, passes-ok, passes-end, formula-inside}
-use Rattle.load_draw.specs.Draw.{drawnWord, takes, canLeaveOne, mayPick, choices, pickedBy, tokenFrom, stateFrom, restFrom, formulaFrom, badLimit}
+use Rattle.load_draw.specs.Draw.{drawnWord, takes, canLeaveOne, mayPick, choices, pickedBy, tokenFrom, stateFrom, restFrom, formulaFrom}
 use Rattle.load_draw.proofs.Picking.{can-yes, can-least, can-most, may-takes, may-rest, some-choice, picked-may, picked-below}
-use Rattle.load_draw.proofs.Drawing.{token-opcode, token-takes, rest-length, form-length, form-most}
-use Rattle.load_spec.specs.Formulas.{LeaveOne, Ending, CanLeave, CanLeaveExactly, MayCome, ChoicesExactly, SomeChoice, ChoiceExactly, EveryFormulaPasses, LengthDrawn, ConstantsReduced, leaves, OneDrawForEachChoice}
+use Rattle.load_draw.proofs.Drawing.{token-opcode, token-takes, form-length, form-most}
+use Rattle.load_spec.specs.Formulas.{Ending, CanLeaveExactly, ChoicesExactly, ChoiceExactly, EveryFormulaPasses, LengthDrawn, ConstantsReduced, leaves, OneDrawForEachChoice}
 use Rattle.load_spec.proofs.Machine.{to-leaves, from-leaves, arity-most, Proper, proper, First, first, onto-leaves, leaves-can, tail}
 
 -- ---- which opcodes may be picked

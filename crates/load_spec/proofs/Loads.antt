@@ -1,15 +1,13 @@
 -- The statements of specs/Loads. Assumes nothing.
 use mathlib.Core.Path.{_≡_, refl, sym, ap, ap₂, _∙_}
-use mathlib.Core.List.{List, [], _∷_, _++_, map}
-use Prim.Native.Nat.{ℕ, zero, suc, _+_, _≤_}
+use mathlib.Core.List.{List, _∷_, map}
+use Prim.Native.Nat.{ℕ, zero, suc, _≤_}
 use native.Mathlib.Nat.{suc-add, zero-add}
 use native.Mathlib.Omega.{arith}
-use lib.ListN.{length, take, drop, length-map, length-append, length-drop}
+use lib.ListN.{length, drop, length-map, length-append, length-drop}
 use Rattle.expr.specs.declared.Token.{Token}
 use Rattle.expr.specs.Formula.{opcodeOf, operandOf, tokens}
-use Rattle.load_draw.specs.declared.DrawnFormula.{DrawnFormula}
 use Rattle.load_draw.specs.Draw.{Drawn, formulaFrom, loadFrom, loadState, drawRefusal, drawnOr, laid, laidOr, Called, called}
-use Rattle.load_draw.specs.Steps.{Ready}
 use Rattle.load_draw.proofs.Drawing.{laid-reads, form-most}
 use Rattle.load_draw.proofs.Refusing.{ready, ready-none}
 use Rattle.load_spec.specs.Loads.{Loaded, before, callsFrom, LoadIsCalls, SameLoad, StateRunsOn, FirstOfLonger}

@@ -2,11 +2,11 @@
 use mathlib.Core.Path.{_≡_, refl, sym, ap, ap₂, _∙_, subst}
 use mathlib.Core.Bool.{Bool, cond}
 use mathlib.Core.Logic.{_⊎_, inl, inr}
-use mathlib.Core.List.{List, [], _∷_, _++_, map, flatMap, append-assoc, append-nil}
+use mathlib.Core.List.{List, [], _++_, map, flatMap, append-assoc, append-nil}
 use Prim.Native.Nat.{ℕ, zero, suc, _+_, _-_, _≤_, _<_}
 use native.Mathlib.Omega.{arith}
 use borrow.Author.Tests.{lt-ltb, le-ltb}
-use lib.ListN.{length, length-append}
+use lib.ListN.{length}
 use Rattle.limits.proofs.Refusals.{le-or-lt}
 use Rattle.expr.specs.declared.Token.{Token}
 use Rattle.expr.specs.Formula.{opcodeOf, operandOf, tokens}
@@ -19,8 +19,8 @@ use Rattle.load_draw.proofs.Drawing.{laid-reads}
 use Rattle.load_text.specs.declared.Load.{Load}
 use Rattle.load_text.specs.declared.LoadPart.{LoadPart}
 use Rattle.load_text.specs.Text.{linesFrom}
-use Rattle.load_text.specs.Writing.{lineMax, further, Lines, after, linesIn, linesPart}
-use Rattle.load_text.specs.Steps.{Answers, WroteLines}
+use Rattle.load_text.specs.Writing.{lineMax, further, Lines, after, linesIn}
+use Rattle.load_text.specs.Steps.{WroteLines}
 
 -- ---- all lines
 pub lines-none : (nv w limit s : ℕ) → linesFrom nv w limit 0 s ≡ []

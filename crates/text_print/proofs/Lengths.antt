@@ -1,12 +1,12 @@
 -- How long the line of a formula, and that of a refusal, can get. Assumes nothing.
-use mathlib.Core.List.{List, [], _∷_, _++_}
-use Prim.Native.Nat.{ℕ, suc, _+_, _*_, _≤_}
+use mathlib.Core.List.{List, [], _∷_}
+use Prim.Native.Nat.{ℕ, _+_, _*_, _≤_}
 use native.Mathlib.Omega.{arith}
 use lib.ListN.{length, length-append}
 use Rattle.row_gates.specs.declared.Gate.the-variants.{And, Or, Xor, Add, Mul}
 use Rattle.expr.specs.declared.Token.{Token}
 use Rattle.expr.specs.declared.Token.the-variants.{Constant, Variable, Binary, Not, Neg, Bad}
-use Rattle.text_print.specs.Text.{decimal, tokenText, tokensText, formulaLine, refusedWord, refusedLine}
+use Rattle.text_print.specs.Text.{decimal, tokenText, tokensText, formulaLine, refusedLine}
 use Rattle.text_print.specs.Printing.{tokenMax, nextMax, refusalMax}
 use Rattle.text_print.proofs.Decimals.{decimal-length}
 

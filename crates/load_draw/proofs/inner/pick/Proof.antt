@@ -1,7 +1,7 @@
 -- `load_draw::inner::pick` meets its contract: each depth has its run of choices. Assumes nothing.
-use mathlib.Core.Path.{_≡_, sym, ap, _∙_}
+use mathlib.Core.Path.{sym, ap, _∙_}
 use Prim.Native.Nat.{ℕ}
-use Rattle.load_draw.specs.Draw.{pickedBy, choices}
+use Rattle.load_draw.specs.Draw.{pickedBy}
 use Rattle.load_draw.proofs.Picking.{picked-run, choices-none, choices-all, choices-narrow, choices-gates}
 use native.Mathlib.Omega.{arith}
 use borrow.Author.Needs.{needs}

@@ -1,5 +1,5 @@
 -- `load_draw::inner::put_operand` meets its contract: a leaf draws its operand, any other token has 0. Assumes nothing.
-use mathlib.Core.Path.{_≡_, refl, sym, ap, ap₂, _∙_}
+use mathlib.Core.Path.{sym, ap, ap₂, _∙_}
 use Prim.Native.Nat.{ℕ, _%_}
 use lib.ListN.{set}
 use Rattle.arith.proofs.Remainders.{modulus-is}

@@ -1,5 +1,4 @@
 -- `text_print::inner::decimal::put_eight` meets its contract: the lanes of a word that has the bytes of four pairs. Assumes nothing.
-use native.Mathlib.Omega.{arith}
 use borrow.Author.Needs.{needs}
 use Rattle.text_print.proofs.Decimals.{then, reads}
 use Rattle.text_print.proofs.Lanes.{eight-is}

@@ -1,5 +1,4 @@
 -- `text_print::inner::decimal::put_four` meets its contract: two pairs. Assumes nothing.
-use native.Mathlib.Omega.{arith}
 use borrow.Author.Needs.{needs}
 use Rattle.text_print.specs.Printing.{fourOf}
 use Rattle.text_print.proofs.Decimals.{then}

@@ -1,7 +1,7 @@
 -- `text_print::inner::formulas::print_token` meets its contract: its sign, or what has none. Assumes nothing.
 use native.Mathlib.Omega.{arith}
 use borrow.Author.Needs.{needs}
-use mathlib.Core.List.{List, [], _∷_}
+use mathlib.Core.List.{[], _∷_}
 use mathlib.Core.Path.{sym, ap, _∙_}
 use Prim.Native.Nat.{ℕ}
 use Rattle.text_print.proofs.Decimals.{reads}

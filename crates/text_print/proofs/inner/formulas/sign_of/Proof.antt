@@ -1,5 +1,4 @@
 -- `text_print::inner::formulas::sign_of` meets its contract, token by token. Assumes nothing.
-use native.Mathlib.Omega.{arith}
 use borrow.Author.Needs.{needs}
 use Rattle.text_print.specs.Printing.{signOf}
 use Rattle.text_print.proofs.inner.formulas.sign_of.Statement.{statement}
