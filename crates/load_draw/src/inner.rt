@@ -3,7 +3,7 @@ use crate::DrawnFormula;
 use expr::MAX_TOKENS;
 ghost use mathlib.Core.Path.{_≡_};
 ghost use mathlib.Core.List.{map};
-ghost use Prim.Native.Nat.{_+_, _%_, _≤_, _<_};
+ghost use Prim.Native.Nat.{_+_, _≤_, _<_};
 ghost use lib.ListN.{length, set};
 ghost use Rattle.expr.specs.Formula.{opcodeOf, operandOf};
 ghost use Rattle.load_draw.specs.Draw.{takes, pickedBy, tokenFrom, stateFrom, restFrom, formulaFrom, badLimit, drawRefusal, drawnOr, laid};
@@ -139,7 +139,7 @@ fn takes_of(o: u8) -> usize
 
 // Lays the operand of token i, whose opcode was drawn before state s, and answers the state after the token.
 fn put_operand(operands: &mut [u64], s: u64, i: usize, o: u8, nv: u32, w: u32) -> u64
-    requires { ⌜ (i < length (now operands)) × (1 ≤ nv) × (nv ≤ 6) × (w ≤ 64) × (o < 9) ⌝ }
+    requires { ⌜ (i < length (now operands)) × (1 ≤ nv) × (w ≤ 64) × (o < 9) ⌝ }
     ensures { λ r. ⌜ r ≡ stateFrom o s ⌝ }
     ensures { λ r. ⌜ now (operands .exit) ≡ set (now (operands .entry)) i (operandOf (tokenFrom nv w o s)) ⌝ }
 {
@@ -152,29 +152,6 @@ fn put_operand(operands: &mut [u64], s: u64, i: usize, o: u8, nv: u32, w: u32) -
         operands[i] = arith::reduce(x.word, w);
         return x.state;
     }
-    operands[i] = modulo(x.word, nv);
+    operands[i] = x.word % (nv as u64);
     x.state
-}
-
-// A word modulo the variable count. Each modulus is known when this is compiled: nothing is divided.
-fn modulo(word: u64, nv: u32) -> u64
-    requires { ⌜ (1 ≤ nv) × (nv ≤ 6) ⌝ }
-    ensures { λ r. ⌜ r ≡ word % nv ⌝ }
-{
-    if nv == 1 {
-        return 0;
-    }
-    if nv == 2 {
-        return word % 2;
-    }
-    if nv == 3 {
-        return word % 3;
-    }
-    if nv == 4 {
-        return word % 4;
-    }
-    if nv == 5 {
-        return word % 5;
-    }
-    word % 6
 }

@@ -43,8 +43,8 @@ returns-2 c = let a = c .before .before .before .before .before .args in let dre
   ap (λ (x : ℕ). set (a .operands .now) (a .i) x) (c .reduce .ensures ∙ ap₂ (λ (d : Draw) (m : ℕ). d .word % m) drew (modulus-is (a .w) (omega arith)) ∙ sym (operand-constant (a .nv) (a .w) (a .o) (a .s) (c .before .if2 .taken))),
 )
 
-modulo-requires : tie.Need-modulo-requires
-modulo-requires c κs = search needs
+rem-operands : tie.Need-rem-operands
+rem-operands c = search needs
 
 mul-operands-3 : tie.Need-mul-operands-3
 mul-operands-3 c = search needs
@@ -58,7 +58,7 @@ same-length-3 c = search needs
 returns-3 : tie.Need-returns-3
 returns-3 c = let a = c .before .before .before .before .before .args in let drew = c .before .before .splitmix64 .ensures in (
   ap (λ (d : Draw). d .state) drew ∙ sym (state-variable (a .o) (a .s) (omega arith)),
-  ap (λ (x : ℕ). set (a .operands .now) (a .i) x) (c .modulo .ensures ∙ ap (λ (d : Draw). d .word % a .nv) drew ∙ sym (operand-variable (a .nv) (a .w) (a .o) (a .s) (omega arith))),
+  ap (λ (x : ℕ). set (a .operands .now) (a .i) x) (ap (λ (d : Draw). d .word % a .nv) drew ∙ sym (operand-variable (a .nv) (a .w) (a .o) (a .s) (omega arith))),
 )
 
 pub put-operand-spec : {M : Type 1} → statement M
@@ -75,7 +75,7 @@ put-operand-spec =
     slice-write-operands-2
     same-length-2
     returns-2
-    modulo-requires
+    rem-operands
     mul-operands-3
     slice-write-operands-3
     same-length-3
