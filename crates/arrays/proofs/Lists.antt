@@ -131,8 +131,7 @@ count-end i n h = let e : n - i ≡ 0 = omega arith in ap (countUp i) e
 pub count-start : (n : ℕ) → countUp 0 (n - 0) ≡ countUp 0 n
 count-start n = let e : n - 0 ≡ n = omega arith in ap (countUp 0) e
 
--- ---- places
--- an element of a mapped list
+-- how many they are, and which stands where
 pub length-count : (i n : ℕ) → length (countUp i n) ≡ n
 unfolding countUp
 length-count i zero = refl
@@ -144,6 +143,8 @@ getD-count i zero k d h = absurd (omega arith)
 getD-count i (suc n) zero d h = omega arith
 getD-count i (suc n) (suc k) d h = getD-count (suc i) n k d (omega arith) ∙ omega arith
 
+-- ---- places
+-- an element of a mapped list
 pub getD-map : {A B : Type 0} (f : A → B) (l : List A) (k : ℕ) (d : A) (e : B) → k < length l → getD (map f l) k e ≡ f (getD l k d)
 getD-map f [] k d e h = absurd (omega arith)
 getD-map f (a ∷ l) zero d e h = refl

@@ -14,7 +14,7 @@ pub fn draw_same(line: &[u64]) -> bool {
     if line.len() < 10 {
         return false;
     }
-    if 64 < line[8] {
+    if expr::MAX_TOKENS as u64 < line[8] {
         return false;
     }
     let count = line[8] as usize;

@@ -101,7 +101,7 @@ fn write(out: &mut [u8], c: Case) -> Case {
     write_listing(out, c)
 }
 
-// The load that the text asks for, whole: the buffer has room for all that is expected and a line more.
+// The load that the text asks for, whole: what is expected in the data is short enough for one buffer, and a load that isn't differs.
 fn write_load(out: &mut [u8], mut c: Case) -> Case {
     c.written = true;
     let part = load_text::write_some(out, load_text::start(c.parse));

@@ -20,7 +20,7 @@ pub record Cases : Type 0 where
   pub all : choices 2 2 ≡ 0 ∷ (1 ∷ (2 ∷ (3 ∷ (4 ∷ (5 ∷ (6 ∷ (7 ∷ (8 ∷ []))))))))
   pub narrow : choices 2 1 ≡ 2 ∷ (3 ∷ (4 ∷ (5 ∷ (6 ∷ (7 ∷ (8 ∷ []))))))
   pub gates : choices 2 0 ≡ 2 ∷ (3 ∷ (4 ∷ (5 ∷ (6 ∷ []))))
-  -- a load of three from seed 1: the state runs on
+  -- formulas of the load of seed 1, each from the state that the one before handed on
   pub first : Draws 2 32 7 1 (Variable 0 ∷ (Neg ∷ (Neg ∷ []))) 1663341875487337578
   pub second : Draws 2 32 7 1663341875487337578 (Variable 1 ∷ (Constant 1952540566 ∷ (Binary And ∷ []))) 14727398570297873640
   pub fourth : Draws 2 32 7 9344711191398858086 (Constant 1945068808 ∷ (Not ∷ (Constant 3511979981 ∷ (Binary Or ∷ (Neg ∷ (Neg ∷ [])))))) 1270680123050334755

@@ -1,4 +1,4 @@
-// What the listing calls with arrays that it has built.
+// What the programs call with arrays that they have filled.
 pub mod decimal;
 pub mod formulas;
 pub mod lines;

@@ -1,2 +1,2 @@
-// The listing's output, as text in a lent buffer.
+// The programs' output, as text in a lent buffer.
 pub mod inner;

@@ -17,6 +17,7 @@ use std::iter::FusedIterator;
 /// # Ok::<(), simjaldek::Refusal>(())
 /// ```
 #[derive(Clone, Debug, PartialEq, Eq)]
+#[must_use = "a load draws nothing until it is asked for a formula"]
 pub struct Load {
     state: u64,
     num_vars: u32,

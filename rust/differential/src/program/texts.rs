@@ -106,7 +106,7 @@ pub fn all() -> Vec<Vec<u8>> {
 pub fn short() -> Vec<Vec<u8>> {
     let named = [&MALFORMED[..], &REFUSED, &SHAPES].concat();
     let mut texts: Vec<Vec<u8>> = named.iter().map(|text| text.as_bytes().to_vec()).collect();
-    for turn in 0..42 {
+    for turn in 0..150 {
         let limit = 1 + turn * 13 % 64;
         texts.push(loads(turn, limit, [0, 1, 2, 100][turn as usize % 4]));
     }
