@@ -2,6 +2,7 @@
 use compare_lines::OLD_BYTE;
 use compare_lines::OLD_WORD;
 use compare_lines::narrow;
+use expr::MAX_TOKENS;
 use load_draw::DrawnFormula;
 ghost use Prim.Native.Nat.{_≤_};
 ghost use lib.ListN.{length};
@@ -14,7 +15,7 @@ pub fn draw_same(line: &[u64]) -> bool {
     if line.len() < 10 {
         return false;
     }
-    if expr::MAX_TOKENS as u64 < line[8] {
+    if line[8] > MAX_TOKENS as u64 {
         return false;
     }
     let count = line[8] as usize;

@@ -17,7 +17,7 @@ use std::iter::FusedIterator;
 /// # Ok::<(), simjaldek::Refusal>(())
 /// ```
 #[derive(Clone, Debug, PartialEq, Eq)]
-#[must_use = "a load draws nothing until it is asked for a formula"]
+#[must_use = "a load is drawn as it is asked for formulas"]
 pub struct Load {
     state: u64,
     num_vars: u32,
