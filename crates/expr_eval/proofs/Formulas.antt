@@ -52,7 +52,7 @@ module _ (w : ℕ) (words : List ℕ) where
   tree-lt (variable i) = mod-lt (getD words i 0) (pow-pos w)
   tree-lt (inverted a) = let p = pow-pos w in omega arith
   tree-lt (negated a) = mod-lt (2 ^ w - fold (valueAlg w words) a % 2 ^ w) (pow-pos w)
-  tree-lt (gated g a b) = gate-lt g w (fold (valueAlg w words) a) (fold (valueAlg w words) b) (tree-lt a) (tree-lt b)
+  tree-lt (gated g a b) = gate-lt g w (fold (valueAlg w words) a) (fold (valueAlg w words) b)
 
   none-lt : (x : Option ℕ) → isSome x ≡ false → orElse 0 x < 2 ^ w
   unfolding orElse

@@ -8,19 +8,19 @@ use native.Mathlib.Decide.{decLt}
 use native.Mathlib.Nat.{eq-or-lt-of-le}
 use native.Mathlib.Omega.{arith}
 use borrow.Author.Tests.{ltb-true, ltb-false, lt-ltb, le-ltb}
-use lib.Bits.{and-self, or-self}
 use lib.Dec.{ltb}
 use lib.ListN.{getD, length, take, length-append, length-take, List·getD-append}
 use lib.Seq.{take-append-le, take-all, take-take, getD-at}
 use Rattle.row_gates.specs.Gates.{gateOf, gateRow, sameRow}
 use Rattle.row_gates.specs.declared.Gate.{Gate}
 use Rattle.row_gates.specs.declared.Gate.the-variants.{And, Or, Xor, Add, Mul}
+use Rattle.row_gates.proofs.GateLaws.{and-itself, or-itself}
 use Rattle.row_gates.proofs.Rows.{row-comm, row-self, same-row-eq, same-row-refl}
 use Rattle.arrays.specs.Lists.{countUp, In}
-use Rattle.index_spec.specs.Index.{Trial, Pair, Index, holds, firstC, trialsUpTo, trialsWith, trialsOfGate, trialsOf, trialRow, pairOf, rowsIn, addNew, allPairs, indexOf}
+use Rattle.index_spec.specs.Index.{Trial, Pair, Index, holds, passesOver, firstC, trialsUpTo, trialsWith, trialsOfGate, trialsOf, trialRow, pairOf, rowsIn, addNew, allGates, allPairs, indexOf}
 use Rattle.index_spec.specs.Trials.{listed, ended, tryPair, tryAll, noPairs, triedOf}
-use Rattle.index_spec.specs.Facts.{Holds, noPair, SoundPair, SoundPairs, NoneLost, IndexIsSound, AtMostLimit, UncutLosesNone, ByTrials, FirstPairs, AllAreSound, AllLoseNone}
-use Rattle.arrays.proofs.Lists.{false-true, bool-cases, in-left, in-right, in-map, map-in, in-flat, flat-in, in-count, count-in, in-at, in-place, place-in}
+use Rattle.index_spec.specs.Facts.{Holds, noPair, SoundPair, SoundPairs, NoneLost, IndexIsSound, AtMostLimit, UncutLosesNone, ByTrials, FirstPairs, AllAreSound, AllLoseNone, PassedOverIsAtom, PassedOverIsLost}
+use Rattle.arrays.proofs.Lists.{false-true, is-false, bool-cases, in-left, in-right, in-map, map-in, in-flat, flat-in, in-count, count-in, in-at, in-place, place-in}
 
 -- ---- rows that are held
 pub holds-in : (rs : List (List ℕ)) (r : List ℕ) → holds rs r ≡ true → In r rs
@@ -90,14 +90,18 @@ trials-in gates n t h =
       low = omega arith;
     }
 
--- b with itself: tried, or the row itself
-itself : (gates : List Gate) (w n : ℕ) (row : List ℕ) (g : Gate) (b : ℕ) → In g gates → b < n → In (record { gate = g; b = b; c = b }) (trialsOf gates n) ⊎ (gateRow g w row row ≡ row)
-unfolding gateOf firstC
-itself gates w n row And b i h = inr (row-self And w and-self row)
-itself gates w n row Or b i h = inr (row-self Or w or-self row)
-itself gates w n row Xor b i h = inl (in-trials gates n Xor b b i h (omega arith) h)
-itself gates w n row Add b i h = inl (in-trials gates n Add b b i h (omega arith) h)
-itself gates w n row Mul b i h = inl (in-trials gates n Mul b b i h (omega arith) h)
+-- b with itself: tried, where the gate doesn't pass it over
+from-itself : (g : Gate) (b : ℕ) → passesOver g ≡ false → firstC g b ≡ b
+unfolding firstC
+from-itself g b e = rw e
+
+-- passed over, it is the row reduced
+pub passed-over-is-atom : PassedOverIsAtom
+passed-over-is-atom And i w row = row-self And w (and-itself w) row
+passed-over-is-atom Or i w row = row-self Or w (or-itself w) row
+passed-over-is-atom Xor i w row = absurd (false-true i)
+passed-over-is-atom Add i w row = absurd (false-true i)
+passed-over-is-atom Mul i w row = absurd (false-true i)
 
 -- ---- rows of pairs
 pub rows-snoc : (ps : List Pair) (p : Pair) → rowsIn (ps ++ (p ∷ [])) ≡ rowsIn ps ++ (p .row ∷ [])
@@ -336,20 +340,17 @@ module _ (w L : ℕ) (gates : List Gate) (bank : List (List ℕ)) (uncut : tried
 
   none-lost : NoneLost w gates bank (triedOf w L gates bank .pairs)
   unfolding trialRow
-  none-lost g i b c hb hc =
+  none-lost g i b c hb hc other =
       elim (decLt b c) [
         | yes l ↦ tried-kept (record { gate = g; b = b; c = c }) (in-trials gates (length bank) g b c i hb (from-c g b c l) hc)
         | no n ↦ elim (eq-or-lt-of-le {n = c} {m = b} (omega arith)) [
           | inr l ↦ subst Kept (row-comm g w (getD bank c []) (getD bank b [])) (tried-kept (record { gate = g; b = c; c = b }) (in-trials gates (length bank) g c b i hc (from-c g c b l) hb))
-          | inl e ↦ subst (λ (k : ℕ). Kept (gateRow g w (getD bank b []) (getD bank k []))) (sym e) same
+          | inl e ↦ subst (λ (k : ℕ). Kept (gateRow g w (getD bank b []) (getD bank k []))) (sym e) (same (is-false (passesOver g) (λ p. other p (sym e))))
         ]
       ]
     where
-      same : Kept (gateRow g w (getD bank b []) (getD bank b []))
-      same = elim (itself gates w (length bank) (getD bank b []) g b i hb) [
-        | inl t ↦ tried-kept (record { gate = g; b = b; c = b }) t
-        | inr e ↦ inl (in-place [] _ bank (subst (λ (r : List ℕ). In r bank) (sym e) (in-at [] bank b hb)))
-      ]
+      same : passesOver g ≡ false → Kept (gateRow g w (getD bank b []) (getD bank b []))
+      same p = tried-kept (record { gate = g; b = b; c = b }) (in-trials gates (length bank) g b b i hb (omega (arith, from-itself g b p)) hb)
 
 pub uncut-loses-none : UncutLosesNone
 uncut-loses-none w L gates bank =
@@ -373,3 +374,8 @@ all-are-sound w gates bank = subst (SoundPairs w gates bank) (whole w gates bank
 
 pub all-lose-none : AllLoseNone
 all-lose-none w gates bank = subst (NoneLost w gates bank) (whole w gates bank) (uncut-loses-none w (number w gates bank) gates bank (unmarked w gates bank))
+
+-- ---- the small case, by computing
+pub passed-over-is-lost : PassedOverIsLost
+unfolding indexOf allPairs addNew trialsOf trialsOfGate trialsWith trialsUpTo firstC trialRow rowsIn holds allGates gateRow gateOf sameRow countUp
+passed-over-is-lost = record { whole = refl; lost = refl }

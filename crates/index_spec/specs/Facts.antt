@@ -1,15 +1,15 @@
 -- What holds of every index, as types; proofs/ has their proofs. Assumes nothing.
 use mathlib.Core.Path.{_≡_}
-use mathlib.Core.Bool.{false}
+use mathlib.Core.Bool.{true, false}
 use mathlib.Core.Logic.{_⊎_}
-use mathlib.Core.List.{List, []}
+use mathlib.Core.List.{List, [], _∷_}
 use Prim.Native.Nat.{ℕ, _≤_, _<_}
 use lib.ListN.{length, getD, take}
-use Rattle.row_gates.specs.Gates.{gateRow}
+use Rattle.row_gates.specs.Gates.{gateRow, reducedRow}
 use Rattle.row_gates.specs.declared.Gate.{Gate}
-use Rattle.row_gates.specs.declared.Gate.the-variants.{And}
+use Rattle.row_gates.specs.declared.Gate.the-variants.{And, Xor}
 use Rattle.arrays.specs.Lists.{In, Place}
-use Rattle.index_spec.specs.Index.{Pair, indexOf, rowsIn, allPairs}
+use Rattle.index_spec.specs.Index.{Pair, allGates, passesOver, indexOf, rowsIn, allPairs}
 use Rattle.index_spec.specs.Trials.{triedOf}
 
 -- some slot has the row
@@ -33,10 +33,10 @@ pub record SoundPairs (w : ℕ) (gates : List Gate) (bank : List (List ℕ)) (pa
   pub pair : (k : ℕ) → k < length pairs → SoundPair w gates bank (getD pairs k noPair)
   pub distinct : (i j : ℕ) → i < j → j < length pairs → getD pairs i noPair .row ≡ getD pairs j noPair .row → ⊥
 
--- no row is lost: each gate's row of two atoms, in any order and equal too, is the bank's or a pair's
+-- no row is lost: each gate's row of two atoms, in any order, is the bank's or a pair's; and of an atom with itself, but where the gate passes it over
 abbrev pub NoneLost : ℕ → List Gate → List (List ℕ) → List Pair → Type 0
 NoneLost w gates bank pairs =
-    (g : Gate) → In g gates → (b c : ℕ) → b < length bank → c < length bank
+    (g : Gate) → In g gates → (b c : ℕ) → b < length bank → c < length bank → (passesOver g ≡ true → b ≡ c → ⊥)
     → Holds bank (gateRow g w (getD bank b []) (getD bank c [])) ⊎ Holds (rowsIn pairs) (gateRow g w (getD bank b []) (getD bank c []))
 
 -- ---- the facts, for every width, limit, list of gates and bank
@@ -67,3 +67,14 @@ AllAreSound = (w : ℕ) (gates : List Gate) (bank : List (List ℕ)) → SoundPa
 
 abbrev pub AllLoseNone : Type 0
 AllLoseNone = (w : ℕ) (gates : List Gate) (bank : List (List ℕ)) → NoneLost w gates bank (allPairs w gates bank)
+
+-- 02, 2.3, and b = c passed over: And or Or of a row with itself is that row reduced. It is the row itself only where its words are below 2^w; modulo 2^w it
+-- always is, so that with any word it has the product that the atom has
+abbrev pub PassedOverIsAtom : Type 0
+PassedOverIsAtom = (g : Gate) → passesOver g ≡ true → (w : ℕ) (row : List ℕ) → gateRow g w row row ≡ reducedRow w row
+
+-- and over a lent bank with words at or above 2^w it may stand nowhere. At width 2, of one atom, here a row of one word, 6: its whole index is one pair,
+-- of 0, and 6 And 6 is 2
+pub record PassedOverIsLost : Type 0 where
+  pub whole : indexOf 2 1 allGates ((6 ∷ []) ∷ []) ≡ record { pairs = record { gate = Xor; b = 0; c = 0; row = 0 ∷ [] } ∷ []; cut = false }
+  pub lost : gateRow And 2 (6 ∷ []) (6 ∷ []) ≡ 2 ∷ []

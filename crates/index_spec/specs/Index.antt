@@ -45,13 +45,17 @@ pub record Index : Type 0 where
 unfoldable pub allGates : List Gate
 allGates = And ∷ (Or ∷ (Xor ∷ (Add ∷ (Mul ∷ []))))
 
--- 01, Index: c from b upward, b = c passed over for And and Or
+-- 01, Index: b = c passed over for And and Or
+abbrev pub passesOver : Gate → Bool
+passesOver And = true
+passesOver Or = true
+passesOver Xor = false
+passesOver Add = false
+passesOver Mul = false
+
+-- 01, Index: c from b upward, b itself where the gate doesn't pass it over
 unfoldable pub firstC : Gate → ℕ → ℕ
-firstC And b = suc b
-firstC Or b = suc b
-firstC Xor b = b
-firstC Add b = b
-firstC Mul b = b
+firstC g b = cond (passesOver g) (suc b) b
 
 -- the first k trials of a gate with atom b
 unfoldable pub trialsUpTo : Gate → ℕ → ℕ → List Trial

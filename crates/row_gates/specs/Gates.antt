@@ -1,6 +1,6 @@
 -- Gates on words and on rows. A "row" is 01's term: sixteen words, a formula's values at the sixteen points. Assumes nothing.
 use mathlib.Core.Bool.{Bool, true, false, cond}
-use mathlib.Core.List.{List, [], _∷_, zipWith}
+use mathlib.Core.List.{List, [], _∷_, map, zipWith}
 use Prim.Native.Nat.{ℕ, zero, suc, _+_, _*_, _%_, _^_}
 use lib.Bits.{bitAnd, bitOr, bitXor}
 use lib.Dec.{eqb}
@@ -29,13 +29,17 @@ gateAt (suc (suc zero)) = Xor
 gateAt (suc (suc (suc zero))) = Add
 gateAt (suc (suc (suc (suc k)))) = Mul
 
--- 01, cobra-simd lib.rs: And, Or, Xor leave high bits in place; Add and Mul reduce. The one place that says what a gate gives: proofs/GateLaws has its laws
+-- 01, cobra-simd lib.rs: what a gate makes of two words, as numbers: And, Or and Xor bit by bit, Add the sum, Mul the product
+abbrev pub joined : Gate → ℕ → ℕ → ℕ
+joined And a b = bitAnd a b
+joined Or a b = bitOr a b
+joined Xor a b = bitXor a b
+joined Add a b = a + b
+joined Mul a b = a * b
+
+-- 02, 2.3: And, Or and Xor reduce their results to the width, as Add and Mul do. The one place that says what a gate gives: specs/Facts says what holds of it
 unfoldable pub gateOf : Gate → ℕ → ℕ → ℕ → ℕ
-gateOf And w a b = bitAnd a b
-gateOf Or w a b = bitOr a b
-gateOf Xor w a b = bitXor a b
-gateOf Add w a b = (a + b) % 2 ^ w
-gateOf Mul w a b = (a * b) % 2 ^ w
+gateOf g w a b = joined g a b % 2 ^ w
 
 -- 01, cobra-simd lib.rs: Xor and Add invert
 abbrev pub invertible : Gate → Bool
@@ -45,11 +49,11 @@ invertible Xor = true
 invertible Add = true
 invertible Mul = false
 
--- 01, cobra-simd lib.rs, `gate_residual`: Xor and Add invert, the other gates give zeros
+-- 01, cobra-simd lib.rs, `gate_residual`: Xor and Add invert, the other gates give zeros. 02, 2.3: the inverse of Xor reduces likewise
 unfoldable pub residualOf : Gate → ℕ → ℕ → ℕ → ℕ
 residualOf And w target a = 0
 residualOf Or w target a = 0
-residualOf Xor w target a = bitXor target a
+residualOf Xor w target a = bitXor target a % 2 ^ w
 residualOf Add w target a = subOf (2 ^ w) target a
 residualOf Mul w target a = 0
 
@@ -61,6 +65,10 @@ gateRow g w a b = zipWith (gateOf g w) a b
 unfoldable pub residualRow : Gate → ℕ → List ℕ → List ℕ → List ℕ
 unfolding zipWith
 residualRow g w target a = zipWith (residualOf g w) target a
+
+-- a row with each word reduced to the width
+abbrev pub reducedRow : ℕ → List ℕ → List ℕ
+reducedRow w row = map (λ (v : ℕ). v % 2 ^ w) row
 
 -- 01, cobra-simd lib.rs, `gate_matches` compares all sixteen: the rows are equal in every place
 unfoldable pub sameRow : List ℕ → List ℕ → Bool

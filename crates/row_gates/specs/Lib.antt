@@ -1,2 +1,3 @@
--- What the contracts of this crate, and the definitions above it, cite.
+-- What the contracts of this crate, and the definitions above it, cite; and what holds of every gate.
 pub mod Gates
+pub mod Facts

@@ -48,9 +48,9 @@ pub fn gate_apply_lane(a: u64, b: u64, g: Gate, w: u32) -> u64
     ensures { λ r. ⌜ r ≡ gateOf g w a b ⌝ }
 {
     match g {
-        Gate::And => a & b,
-        Gate::Or => a | b,
-        Gate::Xor => a ^ b,
+        Gate::And => arith::reduce(a & b, w),
+        Gate::Or => arith::reduce(a | b, w),
+        Gate::Xor => arith::reduce(a ^ b, w),
         Gate::Add => arith::mod_add(a, b, w),
         Gate::Mul => arith::mod_mul(a, b, w),
     }
@@ -62,7 +62,7 @@ pub fn residual_lane(target: u64, a: u64, g: Gate, w: u32) -> u64
     ensures { λ r. ⌜ r ≡ residualOf g w target a ⌝ }
 {
     match g {
-        Gate::Xor => target ^ a,
+        Gate::Xor => arith::reduce(target ^ a, w),
         Gate::Add => arith::mod_sub(target, a, w),
         Gate::And => 0,
         Gate::Or => 0,

@@ -29,7 +29,7 @@ pub enum Match {
     Refused(u32),
 }
 
-// The gate of a and b in each place: And, Or and Xor leave high bits in place, Add and Mul reduce. Refuses 2.
+// The gate of a and b in each place, reduced to the width; words may be raw, at or above 2^w. Refuses 2.
 pub fn gate_apply(a: [u64; 16], b: [u64; 16], g: Gate, w: u32) -> RowAnswer
     ensures { λ r. ⌜ r ≡ applied g w a b ⌝ }
 {
@@ -40,7 +40,7 @@ pub fn gate_apply(a: [u64; 16], b: [u64; 16], g: Gate, w: u32) -> RowAnswer
     RowAnswer { refusal: 0, row }
 }
 
-// The row that completes a to the target under Xor or Add; sixteen zeros under the other gates. Refuses 2.
+// The row that completes a to the target under Xor or Add, reduced to the width; sixteen zeros under the other gates. Refuses 2.
 pub fn gate_residual(target: [u64; 16], a: [u64; 16], g: Gate, w: u32) -> RowAnswer
     ensures { λ r. ⌜ r ≡ residual g w target a ⌝ }
 {
@@ -51,7 +51,7 @@ pub fn gate_residual(target: [u64; 16], a: [u64; 16], g: Gate, w: u32) -> RowAns
     RowAnswer { refusal: 0, row }
 }
 
-// Whether the gate of a and b is the target in all sixteen places. Refuses 2.
+// Whether the gate of a and b, reduced, is the target as it is, in all sixteen places: one with a word at or above 2^w never is. Refuses 2.
 pub fn gate_matches(a: [u64; 16], b: [u64; 16], target: [u64; 16], g: Gate, w: u32) -> Match
     ensures { λ r. ⌜ matchSays r ≡ matched g w a b target ⌝ }
 {

@@ -1,13 +1,16 @@
 -- Demand 3, "nothing" is true: trying everything finds nothing exactly when no atom times an atom, or times a gate of two atoms, is the target; for the
--- pairs of an uncut index are the rows of all gates that the bank lacks. Assumes nothing.
-use mathlib.Core.Path.{_≡_, refl, sym, _∙_, subst}
+-- pairs of an uncut index are the rows of all gates that the bank lacks, but for And and Or of an atom with itself, which has that atom's products. Assumes nothing.
+use mathlib.Core.Path.{_≡_, refl, sym, ap, _∙_, subst}
 use mathlib.Core.Bool.{true}
 use mathlib.Core.Logic.{_⊎_, inl, inr}
 use mathlib.Core.List.{List}
-use Prim.Native.Nat.{ℕ, _<_}
-use lib.ListN.{length}
+use Prim.Native.Nat.{ℕ, _*_, _%_, _^_, _<_}
+use native.Mathlib.Omega.{arith}
+use lib.ListN.{length, getD}
+use Rattle.arith.proofs.Remainders.{mul-mod-mod}
 use Rattle.arrays.specs.Parts.{partAt}
-use Rattle.arrays.proofs.Lists.{false-true, is-false}
+use Rattle.arrays.proofs.Lists.{false-true, is-false, getD-map}
+use Rattle.row_gates.specs.Gates.{reducedRow}
 use Rattle.search_product_trial.specs.Trying.{fits, tryEverything}
 use Rattle.search_product.specs.Answer.{searchRefusal}
 use Rattle.search_product.specs.Demand.{Equal, NoProduct, OwnIndex, Uncut, NothingExactly, DemandThree}
@@ -30,11 +33,25 @@ module _ {w count : ℕ} {atoms : List ℕ} {L n : ℕ} {listed order : List ℕ
       fitting : fits w target (partAt 16 atoms a) row ≡ true
       fitting = equal-fits w target (partAt 16 atoms a) row long (atom-long fit a ha) l e
 
+  -- an atom's row reduced has the products that the atom has
+  as-atom : (b : ℕ) → b < count → (a : List ℕ) → Equal w target a (reducedRow w (partAt 16 atoms b)) → Equal w target a (partAt 16 atoms b)
+  as-atom b hb a e j h =
+      let x = getD (partAt 16 atoms b) j 0 in
+      sym (mul-mod-mod (getD a j 0) x (2 ^ w))
+      ∙ ap (λ (v : ℕ). getD a j 0 * v % 2 ^ w) (sym (getD-map (λ (v : ℕ). v % 2 ^ w) (partAt 16 atoms b) j 0 0 (omega (arith, atom-long fit b hb))))
+      ∙ e j h
+
   no-product : Uncut w count atoms L → None → NoProduct w count atoms target
   no-product uncut lacks = record {
-    of-two = λ a b ha hb. with-row lacks a _ ha (atom-long fit b hb) (inl (record { slot = b; below = hb; is = refl }));
-    of-gate = λ g a b c ha hb hc. with-row lacks a _ ha (gate-row-long fit g b c hb hc) (none-lost fit own uncut g b c hb hc);
+    of-two = two;
+    of-gate = λ g a b c ha hb hc e. elim (none-lost fit own uncut g b c hb hc) [
+      | inl h ↦ with-row lacks a _ ha (gate-row-long fit g b c hb hc) h e
+      | inr p ↦ two a b ha hb (as-atom b hb (partAt 16 atoms a) (subst (Equal w target (partAt 16 atoms a)) p e))
+    ];
   }
+    where
+      two : (a b : ℕ) → a < count → b < count → Equal w target (partAt 16 atoms a) (partAt 16 atoms b) → ⊥
+      two a b ha hb = with-row lacks a _ ha (atom-long fit b hb) (inl (record { slot = b; below = hb; is = refl }))
 
   -- this half holds of a cut index too
   none-fits : NoProduct w count atoms target → None

@@ -1,10 +1,11 @@
 -- What an index build that wasn't turned back left, as a search reads it: each pair's row is a gate's row of two atoms, and none is lost if it is uncut.
 -- Assumes nothing.
-use mathlib.Core.Path.{_≡_, refl, sym, ap, ap₂, _∙_}
+use mathlib.Core.Path.{_≡_, refl, sym, ap, ap₂, _∙_, subst}
 use mathlib.Core.Bool.{Bool, true, false, cond}
 use mathlib.Core.Logic.{_⊎_, inl, inr}
 use mathlib.Core.List.{List, [], _∷_, _++_, append-assoc}
 use Prim.Native.Nat.{ℕ, zero, suc, _+_, _*_, _≤_, _<_}
+use native.Mathlib.Decide.{ℕ-discrete}
 use native.Mathlib.Nat.{mul-suc}
 use native.Mathlib.Omega.{arith}
 use borrow.Author.Tests.{ltb-false, le-ltb}
@@ -14,18 +15,18 @@ use lib.Seq.{take-at, drop-append-add}
 use Rattle.arrays.specs.Lists.{In}
 use Rattle.arrays.specs.Parts.{partAt, encode}
 use Rattle.limits.specs.Refusal.{Outcome, refused, answer, outcome}
-use Rattle.arrays.proofs.Lists.{false-true, getD-map}
+use Rattle.arrays.proofs.Lists.{false-true, bool-cases, getD-map}
 use Rattle.arrays.proofs.Parts.{length-part}
 use Rattle.limits.proofs.Refusals.{unless-not}
-use Rattle.row_gates.specs.Gates.{gateRow}
+use Rattle.row_gates.specs.Gates.{gateRow, reducedRow}
 use Rattle.row_gates.specs.declared.Gate.{Gate}
 use Rattle.row_gates.specs.declared.Gate.the-variants.{And, Or, Xor, Add, Mul}
-use Rattle.index_spec.specs.Index.{Pair, allGates, rowsOf, rowsIn, allPairs, indexOf}
+use Rattle.index_spec.specs.Index.{Pair, allGates, passesOver, rowsOf, rowsIn, allPairs, indexOf}
 use Rattle.index_spec.specs.Encoding.{pairRow}
 use Rattle.index.specs.Build.{orderList, indexRefusal, lentIndex, Summary, summaryOf}
 use Rattle.index_spec.specs.Facts.{Holds, noPair}
 use Rattle.index_order.proofs.OrderLaws.{order-length}
-use Rattle.index_spec.proofs.IndexLaws.{index-is-sound, uncut-loses-none, rows-length}
+use Rattle.index_spec.proofs.IndexLaws.{index-is-sound, uncut-loses-none, passed-over-is-atom, rows-length}
 use Rattle.index_spec.proofs.RowLaws.{length-rowsOf, rows-at, gate-long}
 use Rattle.index.proofs.Passing.{none-refused}
 use Rattle.search_product.specs.Demand.{OwnIndex, Uncut}
@@ -156,17 +157,30 @@ module _ {w count : ℕ} {atoms : List ℕ} {L : ℕ} (fit : Fit w count atoms L
         let b : h .at < n = omega (arith, own .count-is) in
         record { slot = h .at; below = b; is = pair-row (h .at) b ∙ sym (getD-map (λ (p : Pair). p .row) pairs (h .at) noPair [] l) ∙ h .is }
 
-    pub none-lost : Uncut w count atoms L → (g : Gate) (b c : ℕ) → b < count → c < count
-        → Has count atoms (gateRow g w (partAt 16 atoms b) (partAt 16 atoms c)) ⊎ Has n listed (gateRow g w (partAt 16 atoms b) (partAt 16 atoms c))
-    unfolding indexOf
-    none-lost uncut g b c hb hc =
-        let long = length-rowsOf count atoms in
-        let whole : lentIndex w count atoms L .cut ≡ false = le-ltb L (length (allPairs w allGates bank)) uncut in
-        let e : gateRow g w (getD bank b []) (getD bank c []) ≡ gateRow g w (partAt 16 atoms b) (partAt 16 atoms c) = ap₂ (gateRow g w) (rows-at count atoms b hb) (rows-at count atoms c hc) in
-        elim (uncut-loses-none w L allGates bank whole g (all-gates g) b c (omega arith) (omega arith)) [
-          | inl h ↦ inl (atom-has _ (record { at = h .at; below = h .below; is = h .is ∙ e }))
-          | inr h ↦ inr (pair-has _ (record { at = h .at; below = h .below; is = h .is ∙ e }))
+    module _ (uncut : Uncut w count atoms L) (g : Gate) (b c : ℕ) (hb : b < count) (hc : c < count) where
+      abbrev row : List ℕ
+      row = gateRow g w (partAt 16 atoms b) (partAt 16 atoms c)
+
+      tried-kept : (passesOver g ≡ true → b ≡ c → ⊥) → Has count atoms row ⊎ Has n listed row
+      unfolding indexOf
+      tried-kept other =
+          let long = length-rowsOf count atoms in
+          let whole : lentIndex w count atoms L .cut ≡ false = le-ltb L (length (allPairs w allGates bank)) uncut in
+          let e : gateRow g w (getD bank b []) (getD bank c []) ≡ row = ap₂ (gateRow g w) (rows-at count atoms b hb) (rows-at count atoms c hc) in
+          elim (uncut-loses-none w L allGates bank whole g (all-gates g) b c (omega arith) (omega arith) other) [
+            | inl h ↦ inl (atom-has _ (record { at = h .at; below = h .below; is = h .is ∙ e }))
+            | inr h ↦ inr (pair-has _ (record { at = h .at; below = h .below; is = h .is ∙ e }))
+          ]
+
+      -- or it is passed over, and is atom b's reduced
+      pub none-lost : (Has count atoms row ⊎ Has n listed row) ⊎ (row ≡ reducedRow w (partAt 16 atoms b))
+      none-lost = elim (bool-cases (passesOver g)) [
+        | inr f ↦ inl (tried-kept (λ p. absurd (false-true (sym f ∙ p))))
+        | inl p ↦ elim (ℕ-discrete b c) [
+          | no n ↦ inl (tried-kept (λ _. n))
+          | yes e ↦ inr (subst (λ (k : ℕ). gateRow g w (partAt 16 atoms b) (partAt 16 atoms k) ≡ reducedRow w (partAt 16 atoms b)) e (passed-over-is-atom g p w (partAt 16 atoms b)))
         ]
+      ]
 
 -- ---- what a build left
 pub built-is-own : BuiltIsOwn

@@ -1,21 +1,20 @@
 -- Laws of one trial: two rows fit exactly if each product of their words is the target's word. Assumes nothing.
 use mathlib.Core.Path.{_≡_, sym, ap, ap₂, _∙_}
 use mathlib.Core.Bool.{true, false}
-use mathlib.Core.List.{List, [], _∷_, map, zipWith}
+use mathlib.Core.List.{List, [], _∷_, zipWith}
 use Prim.Native.Nat.{ℕ, zero, suc, _+_, _*_, _%_, _^_, _≤_, _<_}
-use native.Mathlib.Nat.{mod-eq-of-lt, mul-comm}
+use native.Mathlib.Nat.{mul-comm}
 use native.Mathlib.Omega.{arith}
-use lib.ListN.{length, getD, length-map, List·getD-map}
-use lib.Pow.{pow-pos}
+use lib.ListN.{length, getD}
 use lib.Seq.{ext-getD}
 use Rattle.arrays.specs.Parts.{partAt}
 use Rattle.arith.specs.Word.{modulus}
 use Rattle.arrays.proofs.Lists.{is-false}
 use Rattle.arrays.proofs.Parts.{length-part, getD-part}
 use Rattle.arith.proofs.Remainders.{modulus-is}
-use Rattle.row_gates.specs.Gates.{gateOf, gateRow}
+use Rattle.row_gates.specs.Gates.{gateOf, gateRow, reducedRow}
 use Rattle.row_gates.specs.declared.Gate.the-variants.{Mul}
-use Rattle.row_gates.proofs.Rows.{length-gateRow, getD-gateRow, same-row-eq, same-row-of}
+use Rattle.row_gates.proofs.Rows.{length-gateRow, getD-gateRow, reduced-is, same-row-eq, same-row-of}
 use Rattle.search_product_trial.specs.Trying.{fits}
 use Rattle.search_product_trial.specs.Steps.{fitsAt, Target}
 
@@ -33,13 +32,8 @@ lane w xs a ys b j = (getD xs (16 * a + j) 0 * getD ys (16 * b + j) 0) % 2 ^ w
 
 module _ (w : ℕ) (target xs ys : List ℕ) (a b : ℕ) (ok : Target w target) where
   -- to reduce a target that no refusal turns back changes nothing
-  wanted : map (λ (t : ℕ). t % 2 ^ w) target ≡ target
-  wanted =
-      let long = length-map target (λ (t : ℕ). t % 2 ^ w) in
-      ext-getD 0 (map (λ (t : ℕ). t % 2 ^ w) target) target long λ k h.
-      ap (λ (d : ℕ). getD (map (λ (t : ℕ). t % 2 ^ w) target) k d) (sym (mod-eq-of-lt (pow-pos w)))
-      ∙ List·getD-map (λ (t : ℕ). t % 2 ^ w) target k 0
-      ∙ mod-eq-of-lt (ok .reduced k (omega (arith, ok .long, long)))
+  wanted : reducedRow w target ≡ target
+  wanted = reduced-is w target (λ j h. ok .reduced j (omega (arith, ok .long)))
 
   row : List ℕ
   row = gateRow Mul w (partAt 16 xs a) (partAt 16 ys b)
@@ -54,7 +48,7 @@ module _ (w : ℕ) (target xs ys : List ℕ) (a b : ℕ) (ok : Target w target) 
   pub fits-lane : fitsAt w target xs a ys b ≡ true → (j : ℕ) → j < 16 → lane w xs a ys b j ≡ getD target j 0
   unfolding fits row gateRow
   fits-lane e j h =
-      let same : row ≡ target = same-row-eq row (map (λ (t : ℕ). t % 2 ^ w) target) e ∙ wanted in
+      let same : row ≡ target = same-row-eq row (reducedRow w target) e ∙ wanted in
       let long : length row ≡ 16 = ap length same ∙ ok .long in
       let both = both-long (gateOf Mul w) (partAt 16 xs a) (partAt 16 ys b) j (omega (arith, long)) in
       sym (row-word j h (both .0) (both .1)) ∙ ap (λ (l : List ℕ). getD l j 0) same

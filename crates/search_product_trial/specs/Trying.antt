@@ -7,7 +7,7 @@ use Prim.Native.Nat.{ℕ, _%_, _^_}
 use lib.ListN.{getD}
 use Rattle.arrays.specs.Lists.{countUp, firstThat}
 use Rattle.arrays.specs.Parts.{partAt}
-use Rattle.row_gates.specs.Gates.{gateRow, sameRow}
+use Rattle.row_gates.specs.Gates.{gateRow, reducedRow, sameRow}
 use Rattle.row_gates.specs.declared.Gate.the-variants.{Mul}
 use Rattle.index_order.specs.Order.{firstWord, orderOf}
 use Rattle.search_equation.specs.Equation.{used}
@@ -15,7 +15,7 @@ use Rattle.search_equation.specs.Equation.{used}
 -- 01, Product search: a trial fits if all sixteen products of the two rows' words equal the target's words modulo 2^w
 unfoldable pub fits : ℕ → List ℕ → List ℕ → List ℕ → Bool
 unfolding gateRow sameRow
-fits w target a b = sameRow (gateRow Mul w a b) (map (λ (t : ℕ). t % 2 ^ w) target)
+fits w target a b = sameRow (gateRow Mul w a b) (reducedRow w target)
 
 -- 01, Product search: two atom slots, or an atom slot and a pair slot. A trial, and an answer
 pub data Product : Type 0 where

@@ -11,8 +11,7 @@ use Rattle.arrays.specs.Parts.{partAt}
 use Rattle.arrays.proofs.Lists.{false-true, is-false}
 use Rattle.row_gates.specs.Gates.{gateRow, sameRow}
 use Rattle.row_gates.specs.declared.Gate.{Gate}
-use Rattle.row_gates.proofs.GateLaws.{gate-lt}
-use Rattle.row_gates.proofs.Rows.{getD-gateRow}
+use Rattle.row_gates.proofs.Rows.{gate-reduces, reduced-is}
 use Rattle.search_product.specs.Demand.{OwnIndex, Uncut}
 use Rattle.search_product.proofs.OwnPairs.{Has, Fit, answered, zero-of, atom-long, gate-row-long, pair-gated, none-lost}
 use Rattle.search_residual_trial.specs.Trying.{Completion, completing, hits, tryResiduals}
@@ -43,12 +42,6 @@ module _ {w count : ℕ} {atoms : List ℕ} {n : ℕ} {listed target : List ℕ}
 -- ---- "nothing"
 module _ {w count : ℕ} {atoms : List ℕ} {L n : ℕ} {listed order target : List ℕ} (lent : Lent w count atoms n listed target) (below : RowsBelow w count atoms)
     (own : OwnIndex w count atoms L n listed order) (fit : Fit w count atoms L) where
-  -- a gate's row of two atoms has words below 2^w
-  gate-below : (g : Gate) (b c : ℕ) → b < count → c < count → (j : ℕ) → j < 16 → getD (gateRow g w (partAt 16 atoms b) (partAt 16 atoms c)) j 0 < 2 ^ w
-  gate-below g b c hb hc j h =
-      subst (λ (x : ℕ). x < 2 ^ w) (sym (getD-gateRow g w (partAt 16 atoms b) (partAt 16 atoms c) j (omega (arith, long-atom lent b hb)) (omega (arith, long-atom lent c hc))))
-      (gate-lt g w (getD (partAt 16 atoms b) j 0) (getD (partAt 16 atoms c) j 0) (below b j hb h) (below c j hc h))
-
   -- a row that is an atom's or a pair's, and gives the target with atom a
   with-row : NoneHits w count atoms n listed target → (outer : Gate) → Outer outer → (a : ℕ) (row : List ℕ) → a < count → length row ≡ 16 → ((j : ℕ) → j < 16 → getD row j 0 < 2 ^ w)
       → Has count atoms row ⊎ Has n listed row → Gives outer w target (partAt 16 atoms a) row → ⊥
@@ -63,8 +56,15 @@ module _ {w count : ℕ} {atoms : List ℕ} {L n : ℕ} {listed order target : L
   no-residual : Uncut w count atoms L → NoneHits w count atoms n listed target → NoResidual w count atoms target
   no-residual uncut lacks = record {
     of-two = λ outer o a b ha hb. with-row lacks outer o a _ ha (atom-long fit b hb) (λ j h. below b j hb h) (inl (record { slot = b; below = hb; is = refl }));
-    of-gate = λ outer o g a b c ha hb hc. with-row lacks outer o a _ ha (gate-row-long fit g b c hb hc) (gate-below g b c hb hc) (none-lost fit own uncut g b c hb hc);
+    of-gate = λ outer o g a b c ha hb hc. with-row lacks outer o a _ ha (gate-row-long fit g b c hb hc) (λ j h. gate-reduces g w (partAt 16 atoms b) (partAt 16 atoms c) j) (held g b c hb hc);
   }
+    where
+      -- a row that is passed over is an atom's: reduced it is what it was
+      held : (g : Gate) (b c : ℕ) → b < count → c < count → Has count atoms (gateRow g w (partAt 16 atoms b) (partAt 16 atoms c)) ⊎ Has n listed (gateRow g w (partAt 16 atoms b) (partAt 16 atoms c))
+      held g b c hb hc = elim (none-lost fit own uncut g b c hb hc) [
+        | inl h ↦ h
+        | inr e ↦ inl (record { slot = b; below = hb; is = sym (e ∙ reduced-is w (partAt 16 atoms b) (λ j h. below b j hb (omega (arith, atom-long fit b hb)))) })
+      ]
 
   -- this half holds of a cut index too
   none-hits : NoResidual w count atoms target → NoneHits w count atoms n listed target

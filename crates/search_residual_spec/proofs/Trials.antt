@@ -1,10 +1,11 @@
 -- Laws of trying everything: which trials there are, when none hits, and what a hit means. Assumes nothing.
-use mathlib.Core.Path.{_≡_, sym, ap, _∙_}
+use mathlib.Core.Path.{_≡_, sym, ap, _∙_, subst}
 use mathlib.Core.Bool.{true, false}
 use mathlib.Core.Logic.{inl, inr}
 use mathlib.Core.List.{List, map, flatMap}
 use mathlib.Core.Option.{none, some}
 use Prim.Native.Nat.{ℕ, _^_, _<_}
+use native.Mathlib.Nat.{mod-eq-of-lt}
 use native.Mathlib.Omega.{arith}
 use lib.ListN.{length, getD}
 use lib.Seq.{ext-getD}
@@ -13,7 +14,7 @@ use Rattle.arrays.specs.Parts.{partAt}
 use Rattle.arrays.proofs.Lists.{in-left, in-right, in-split, in-map, map-in, in-flat, flat-in, up-in, in-up, first-none, first-passes, none-passes}
 use Rattle.row_gates.specs.Gates.{gateOf, residualOf, invertible, sameRow}
 use Rattle.row_gates.specs.declared.Gate.{Gate}
-use Rattle.row_gates.proofs.GateLaws.{residual-completes, residual-only}
+use Rattle.row_gates.proofs.GateLaws.{gate-lt, residual-completes, residual-only}
 use Rattle.row_gates.proofs.Rows.{length-residualRow, getD-residualRow, same-row-eq, same-row-of}
 use Rattle.search_residual_trial.specs.Trying.{outerGates, Completion, completing, hits, lookups, underGate, tryResiduals}
 use Rattle.search_residual_spec.specs.Sums.{Outer, Gives}
@@ -40,14 +41,18 @@ module _ (outer : Gate) (is : Outer outer) (w : ℕ) (target atoms : List ℕ) (
   pub hit-gives : ((j : ℕ) → j < 16 → getD target j 0 < 2 ^ w) → sameRow row (completing outer w target atoms a) ≡ true → Gives outer w target (partAt 16 atoms a) row
   hit-gives low e j h =
       ap (gateOf outer w (getD (partAt 16 atoms a) j 0)) (ap (λ (l : List ℕ). getD l j 0) (same-row-eq row (completing outer w target atoms a) e) ∙ word j h)
-      ∙ residual-completes outer (outer-inverts outer is) w (getD target j 0) (getD (partAt 16 atoms a) j 0) (low j h)
+      ∙ residual-completes outer (outer-inverts outer is) w (getD target j 0) (getD (partAt 16 atoms a) j 0)
+      ∙ mod-eq-of-lt (low j h)
 
   pub gives-hit : length row ≡ 16 → ((j : ℕ) → j < 16 → getD row j 0 < 2 ^ w) → Gives outer w target (partAt 16 atoms a) row → sameRow row (completing outer w target atoms a) ≡ true
   gives-hit long-r low gives =
       let lc = length-residualRow outer w target (partAt 16 atoms a) (long ∙ sym long-a) in
       same-row-of (ext-getD 0 row (completing outer w target atoms a) (omega arith) (λ j h.
       let small : j < 16 = omega arith in
-      residual-only outer (outer-inverts outer is) w (getD target j 0) (getD (partAt 16 atoms a) j 0) (getD row j 0) (low j small) (gives j small) ∙ sym (word j small)))
+      let reduced : getD target j 0 < 2 ^ w = subst (λ (x : ℕ). x < 2 ^ w) (gives j small) (gate-lt outer w (getD (partAt 16 atoms a) j 0) (getD row j 0)) in
+      sym (mod-eq-of-lt (low j small))
+      ∙ residual-only outer (outer-inverts outer is) w (getD target j 0) (getD (partAt 16 atoms a) j 0) (getD row j 0) (gives j small ∙ sym (mod-eq-of-lt reduced))
+      ∙ sym (word j small)))
 
 -- ---- the trials: under each outer gate every atom with every atom and every pair
 module _ (w count : ℕ) (atoms : List ℕ) (n : ℕ) (listed target : List ℕ) where

@@ -23,10 +23,14 @@ pub record Cases : Type 0 where
   -- the bank before the index, the least slot first; an atom may complete itself
   pub bank-first : Finds 1 2 (0 ∷ (0 ∷ [])) 2 (0 ∷ (0 ∷ [])) 0 (some (Completion.ofAtoms Xor 0 0))
   pub least-pair : Finds 1 1 (1 ∷ []) 2 (0 ∷ (0 ∷ [])) 1 (some (Completion.ofPair Xor 0 0))
-  -- Xor's row isn't reduced: what reaches 2^w is completed under Add alone, by a slot before its own too
-  pub unreduced : Finds 2 1 (6 ∷ []) 1 (3 ∷ []) 1 (some (Completion.ofPair Add 0 0))
-  pub slot-before : Finds 1 2 (0 ∷ (3 ∷ [])) 0 [] 1 (some (Completion.ofAtoms Add 1 0))
-  pub from-above : Finds 8 2 (257 ∷ (4 ∷ [])) 0 [] 5 (some (Completion.ofAtoms Add 0 1))
+  -- under Add where nothing completes under Xor
+  pub then-add : Finds 2 1 (1 ∷ []) 0 [] 2 (some (Completion.ofAtoms Add 0 0))
+  -- 02, 2.3: Xor's row is reduced, so that an atom that reaches 2^w is completed under Xor too, by a slot before its own too
+  pub raw-atom : Finds 2 1 (6 ∷ []) 1 (3 ∷ []) 1 (some (Completion.ofPair Xor 0 0))
+  pub slot-before : Finds 1 2 (0 ∷ (3 ∷ [])) 0 [] 1 (some (Completion.ofAtoms Xor 1 0))
+  pub from-above : Finds 8 2 (257 ∷ (4 ∷ [])) 0 [] 5 (some (Completion.ofAtoms Xor 0 1))
+  -- and a row that reaches 2^w completes nothing, not even itself to zeros
+  pub raw-part : Finds 1 1 (2 ∷ []) 1 (2 ∷ []) 0 none
   -- rows past the counts don't count
   pub counted : Finds 2 2 (0 ∷ (1 ∷ (3 ∷ []))) 0 (3 ∷ []) 3 none
   -- all sixteen words do

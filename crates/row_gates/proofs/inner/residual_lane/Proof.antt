@@ -1,7 +1,8 @@
 -- `row_gates::inner::residual_lane` meets its contract, gate by gate. Assumes nothing.
 use mathlib.Core.Path.{sym, ap, _∙_}
-use Prim.Native.Nat.{ℕ}
+use Prim.Native.Nat.{ℕ, _%_}
 use borrow.Author.Needs.{needs}
+use lib.Bits.{bitXor}
 use Rattle.arith.specs.Word.{subOf}
 use Rattle.arith.proofs.Remainders.{modulus-is}
 use Rattle.row_gates.specs.Gates.{residualOf}
@@ -11,6 +12,9 @@ use Rattle.row_gates.proofs.inner.residual_lane.Tie as tie
 
 enum-told : tie.Need-enum-told
 enum-told c = search needs
+
+reduce-requires : tie.Need-reduce-requires
+reduce-requires c κs = search needs
 
 enum-told-2 : tie.Need-enum-told-2
 enum-told-2 c = search needs
@@ -29,7 +33,12 @@ enum-told-5 c = search needs
 
 returns : tie.Need-returns
 unfolding residualOf
-returns c = rw (c .enum-told .given .1)
+returns c =
+    let t = c .before .before .before in
+    let s = t .args in
+    c .reduce .ensures
+    ∙ ap (λ (m : ℕ). bitXor (s .target) (s .a) % m) (modulus-is (s .w) (t .pre))
+    ∙ sym (ap (λ (g : Gate). residualOf g (s .w) (s .target) (s .a)) (c .before .enum-told .given .1))
 
 returns-2 : tie.Need-returns-2
 unfolding residualOf
@@ -57,6 +66,7 @@ residual-lane-spec =
     tie.close
     (tie.spec
     enum-told
+    reduce-requires
     enum-told-2
     mod-sub-requires
     enum-told-3
