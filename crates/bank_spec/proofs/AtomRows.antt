@@ -1,8 +1,9 @@
 -- Rows of formulas from those of their operands: what Neg, Not and a gate make of a row. Assumes nothing.
-use mathlib.Core.Path.{_≡_, refl, ap₂}
+use mathlib.Core.Path.{_≡_, refl, ap₂, _∙_}
 use mathlib.Core.Bool.{true}
 use mathlib.Core.List.{List, [], _∷_, _++_, map, zipWith}
 use Prim.Native.Nat.{ℕ, zero, suc, _%_, _^_, _<_}
+use native.Mathlib.Nat.{mod-eq-of-lt}
 use lib.ListN.{length, getD, replicate}
 use lib.Pow.{pow-pos}
 use Rattle.arith.specs.Word.{notOf, negOf}
@@ -22,6 +23,13 @@ module _ (w : ℕ) where
   row-lt [] ts k = pow-pos w
   row-lt (p ∷ points) ts zero = value-lt w (p .words) ts
   row-lt (p ∷ points) ts (suc k) = row-lt points ts k
+
+  -- the constant 0 is 0 everywhere
+  pub row-zero : (points : List Point) (k : ℕ) → getD (rowOf w points (Constant 0 ∷ [])) k 0 ≡ 0
+  unfolding rowOf
+  row-zero [] k = refl
+  row-zero (p ∷ points) zero = value-constant w (p .words) 0 ∙ mod-eq-of-lt (pow-pos w)
+  row-zero (p ∷ points) (suc k) = row-zero points k
 
   -- a constant's row is its word everywhere
   pub row-constant : (points : List Point) (v : ℕ) → rowOf w points (Constant v ∷ []) ≡ replicate (length points) (v % 2 ^ w)

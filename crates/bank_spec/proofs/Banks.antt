@@ -4,12 +4,13 @@ use Prim.Native.Nat.{ℕ, _+_, _*_, _≤_, _<_}
 use native.Mathlib.Omega.{arith}
 use lib.ListN.{length, getD}
 use Rattle.expr.specs.declared.Token.{Token}
-use Rattle.expr.specs.declared.Token.the-variants.{Not, Neg}
+use Rattle.expr.specs.declared.Token.the-variants.{Constant, Not, Neg}
 use Rattle.probe_points.specs.declared.Point.{Point}
+use Rattle.probe.specs.FormulaRow.{rowOf}
 use Rattle.bank_spec.specs.Push.{Atom, noAtom}
-use Rattle.bank_spec.specs.Stock.{stock}
+use Rattle.bank_spec.specs.Stock.{constants, stock}
 use Rattle.bank_spec.specs.Bank.{seedsOf, bankOf}
-use Rattle.bank_spec.specs.Facts.{baseOf, beforeTurn, BankIsSound, BankIsComplete, BankIsWide}
+use Rattle.bank_spec.specs.Facts.{Holds, baseOf, beforeTurn, BankIsSound, BankIsComplete, BankIsWide}
 use Rattle.bank_spec.proofs.Lists.{Every}
 use Rattle.bank_spec.proofs.Growth.{pushAll-few, turns-few, built-few, built-formula, built-turn, built-seed}
 use Rattle.bank_spec.proofs.Soundness.{Fine, fine-fits, fits-tokens, sound-row, Unary, neg-unary, not-unary, Sound, sound-at, base-at-turn, built-sound}
@@ -77,6 +78,11 @@ bank-is-complete nv w points target = record {
   inverted = λ k h. built-turn w points (stock nv w) unaries (seedsOf target) k 1 h (omega arith);
   seeded = built-seed w points (stock nv w) unaries (seedsOf target);
 }
+
+-- so the row of the constant 0, the first of the stock, is held
+pub zero-held : (nv w : ℕ) (points : List Point) (target : List ℕ) → Holds (bankOf nv w points target) (rowOf w points (Constant 0 ∷ []))
+unfolding stock constants
+zero-held nv w points target = bank-is-complete nv w points target .stocked 0 (omega arith)
 
 -- each row has a word for each point
 pub bank-is-wide : BankIsWide

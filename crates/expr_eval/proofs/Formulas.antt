@@ -10,9 +10,10 @@ use lib.ListN.{getD}
 use lib.Pow.{pow-pos}
 use Rattle.arith.specs.Word.{notOf, negOf}
 use Rattle.limits.proofs.Refusals.{true-not-false}
-use Rattle.row_gates.specs.Gates.{gateOf}
+use Rattle.row_gates.specs.Gates.{joined, gateOf}
 use Rattle.row_gates.specs.declared.Gate.{Gate}
-use Rattle.row_gates.proofs.GateLaws.{gate-lt}
+use Rattle.row_gates.specs.Facts.{bitwise}
+use Rattle.row_gates.proofs.GateLaws.{gate-lt, reduced-bit-by-bit}
 use Rattle.expr.specs.declared.Token.{Token}
 use Rattle.expr.specs.declared.Token.the-variants.{Constant, Variable, Binary, Not, Neg}
 use Rattle.expr.specs.Formula.{step, run, only, whole, orElse, isSome, leavesOne, isFormula}
@@ -67,3 +68,9 @@ module _ (w : ℕ) (words : List ℕ) where
       go : (b : Bool) → leavesOne ts ≡ b → valueOf w words ts < 2 ^ w
       go true e = let f = formed ts e in subst (λ (v : ℕ). v < 2 ^ w) (sym (read-formed (valueAlg w words) 0 f)) (tree-lt (f .tree))
       go false e = none-lt (whole (valueAlg w words) ts) (sym (leaves-one-any (valueAlg w words) ts) ∙ e)
+
+  -- And, Or and Xor of two formulas go bit by bit on their values
+  pub value-bit-by-bit : (nv : ℕ) (f g : List Token) → isFormula nv f ≡ true → isFormula nv g ≡ true → (k : Gate) → bitwise k ≡ true
+      → valueOf w words (f ++ (g ++ (Binary k ∷ []))) ≡ joined k (valueOf w words f) (valueOf w words g)
+  value-bit-by-bit nv f g hf hg k i =
+      value-gate nv f hf g hg k ∙ reduced-bit-by-bit k i w (valueOf w words f) (valueOf w words g) (value-lt f) (value-lt g)

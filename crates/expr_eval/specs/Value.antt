@@ -9,7 +9,8 @@ use Rattle.row_gates.specs.Gates.{gateOf}
 use Rattle.expr.specs.declared.Token.{Token}
 use Rattle.expr.specs.Formula.{tokens, Alg, whole, orElse, isFormula}
 
--- 01, evaluator.rs: a constant or variable is its word modulo 2^w; Not is 2^w - 1 - v; Neg, Add and Mul are taken modulo 2^w; And, Or, Xor go bit by bit
+-- 01, evaluator.rs: a constant or variable is its word modulo 2^w; Not is 2^w - 1 - v; Neg, Add and Mul are taken modulo 2^w; And, Or, Xor go bit by
+-- bit (`value-bit-by-bit` of proofs/Formulas: of values, which are below 2^w, a gate's reduction changes nothing)
 unfoldable pub valueAlg : ℕ → List ℕ → Alg ℕ
 valueAlg w words = record {
   onConstant = λ k. k % 2 ^ w;

@@ -3,7 +3,7 @@ use mathlib.Core.Path.{_≡_, refl, sym, ap, ap₂, _∙_, subst}
 use mathlib.Core.Bool.{Bool, true, false}
 use mathlib.Core.Logic.{_⊎_, inl, inr}
 use mathlib.Core.List.{List, [], _∷_, _++_}
-use Prim.Native.Nat.{ℕ, suc, _+_, _-_, _≤_, _<_}
+use Prim.Native.Nat.{ℕ, suc, _+_, _-_, _^_, _≤_, _<_}
 use native.Mathlib.Decide.{decLt}
 use native.Mathlib.Nat.{eq-or-lt-of-le}
 use native.Mathlib.Omega.{arith}
@@ -15,11 +15,11 @@ use Rattle.row_gates.specs.Gates.{gateOf, gateRow, sameRow}
 use Rattle.row_gates.specs.declared.Gate.{Gate}
 use Rattle.row_gates.specs.declared.Gate.the-variants.{And, Or, Xor, Add, Mul}
 use Rattle.row_gates.proofs.GateLaws.{and-itself, or-itself}
-use Rattle.row_gates.proofs.Rows.{row-comm, row-self, same-row-eq, same-row-refl}
+use Rattle.row_gates.proofs.Rows.{row-comm, row-self, gate-reduces, same-row-eq, same-row-refl}
 use Rattle.arrays.specs.Lists.{countUp, In}
 use Rattle.index_spec.specs.Index.{Trial, Pair, Index, holds, passesOver, firstC, trialsUpTo, trialsWith, trialsOfGate, trialsOf, trialRow, pairOf, rowsIn, addNew, allGates, allPairs, indexOf}
 use Rattle.index_spec.specs.Trials.{listed, ended, tryPair, tryAll, noPairs, triedOf}
-use Rattle.index_spec.specs.Facts.{Holds, noPair, SoundPair, SoundPairs, NoneLost, IndexIsSound, AtMostLimit, UncutLosesNone, ByTrials, FirstPairs, AllAreSound, AllLoseNone, PassedOverIsAtom, PassedOverIsLost}
+use Rattle.index_spec.specs.Facts.{Holds, noPair, SoundPair, SoundPairs, NoneLost, IndexIsSound, AtMostLimit, UncutLosesNone, ByTrials, FirstPairs, AllAreSound, AllLoseNone, PairsReduced, PassedOverIsReduced, PassedOverIsLost}
 use Rattle.arrays.proofs.Lists.{false-true, is-false, bool-cases, in-left, in-right, in-map, map-in, in-flat, flat-in, in-count, count-in, in-at, in-place, place-in}
 
 -- ---- rows that are held
@@ -96,12 +96,12 @@ unfolding firstC
 from-itself g b e = rw e
 
 -- passed over, it is the row reduced
-pub passed-over-is-atom : PassedOverIsAtom
-passed-over-is-atom And i w row = row-self And w (and-itself w) row
-passed-over-is-atom Or i w row = row-self Or w (or-itself w) row
-passed-over-is-atom Xor i w row = absurd (false-true i)
-passed-over-is-atom Add i w row = absurd (false-true i)
-passed-over-is-atom Mul i w row = absurd (false-true i)
+pub passed-over-is-reduced : PassedOverIsReduced
+passed-over-is-reduced And i w row = row-self And w (and-itself w) row
+passed-over-is-reduced Or i w row = row-self Or w (or-itself w) row
+passed-over-is-reduced Xor i w row = absurd (false-true i)
+passed-over-is-reduced Add i w row = absurd (false-true i)
+passed-over-is-reduced Mul i w row = absurd (false-true i)
 
 -- ---- rows of pairs
 pub rows-snoc : (ps : List Pair) (p : Pair) → rowsIn (ps ++ (p ∷ [])) ≡ rowsIn ps ++ (p .row ∷ [])
@@ -293,7 +293,12 @@ index-is-sound w L gates bank =
     subst (λ (ix : Index). SoundPairs w gates bank (ix .pairs)) (by-trials w L gates bank)
     (sound-all w gates bank L (trialsOf gates (length bank)) noPairs (λ _ h. h) (sound-none w gates bank))
 
--- ---- uncut, no row is lost
+pub pairs-reduced : PairsReduced
+pairs-reduced w L gates bank k j h =
+    let p = getD (indexOf w L gates bank .pairs) k noPair in
+    subst (λ (row : List ℕ). getD row j 0 < 2 ^ w) (sym (index-is-sound w L gates bank .pair k h .row)) (gate-reduces (p .gate) w (getD bank (p .b) []) (getD bank (p .c) []) j)
+
+-- ---- uncut, no row is lost that isn't passed over
 module _ (w L : ℕ) (bank : List (List ℕ)) where
   grows : (ts : List Trial) (ix : Index) (r : List ℕ) → In r (rowsIn (ix .pairs)) → In r (rowsIn (tryAll w L bank ix ts .pairs))
   unfolding tryAll
@@ -378,4 +383,4 @@ all-lose-none w gates bank = subst (NoneLost w gates bank) (whole w gates bank) 
 -- ---- the small case, by computing
 pub passed-over-is-lost : PassedOverIsLost
 unfolding indexOf allPairs addNew trialsOf trialsOfGate trialsWith trialsUpTo firstC trialRow rowsIn holds allGates gateRow gateOf sameRow countUp
-passed-over-is-lost = record { whole = refl; lost = refl }
+passed-over-is-lost = record { whole = refl; row = refl; no-atom = refl; no-pair = refl }

@@ -3,13 +3,13 @@ use mathlib.Core.Path.{_≡_}
 use mathlib.Core.Bool.{true, false}
 use mathlib.Core.Logic.{_⊎_}
 use mathlib.Core.List.{List, [], _∷_}
-use Prim.Native.Nat.{ℕ, _≤_, _<_}
+use Prim.Native.Nat.{ℕ, _^_, _≤_, _<_}
 use lib.ListN.{length, getD, take}
 use Rattle.row_gates.specs.Gates.{gateRow, reducedRow}
 use Rattle.row_gates.specs.declared.Gate.{Gate}
 use Rattle.row_gates.specs.declared.Gate.the-variants.{And, Xor}
 use Rattle.arrays.specs.Lists.{In, Place}
-use Rattle.index_spec.specs.Index.{Pair, allGates, passesOver, indexOf, rowsIn, allPairs}
+use Rattle.index_spec.specs.Index.{Pair, holds, allGates, passesOver, indexOf, rowsIn, allPairs}
 use Rattle.index_spec.specs.Trials.{triedOf}
 
 -- some slot has the row
@@ -48,7 +48,7 @@ IndexIsSound = (w L : ℕ) (gates : List Gate) (bank : List (List ℕ)) → Soun
 abbrev pub AtMostLimit : Type 0
 AtMostLimit = (w L : ℕ) (gates : List Gate) (bank : List (List ℕ)) → length (indexOf w L gates bank .pairs) ≤ L
 
--- 01, Index: the mark is set exactly if a build ended so. Without it no row is lost
+-- 01, Index: the mark is set exactly if a build ended so. Without it no row is lost that isn't passed over
 abbrev pub UncutLosesNone : Type 0
 UncutLosesNone = (w L : ℕ) (gates : List Gate) (bank : List (List ℕ)) → indexOf w L gates bank .cut ≡ false → NoneLost w gates bank (indexOf w L gates bank .pairs)
 
@@ -61,20 +61,31 @@ ByTrials = (w L : ℕ) (gates : List Gate) (bank : List (List ℕ)) → triedOf 
 abbrev pub FirstPairs : Type 0
 FirstPairs = (w L M : ℕ) (gates : List Gate) (bank : List (List ℕ)) → L ≤ M → indexOf w L gates bank .pairs ≡ take L (indexOf w M gates bank .pairs)
 
--- what is counted is each new row once: all pairs are sound, and none is lost
+-- what is counted is each new row of a trial once: all pairs are sound, and none is lost that isn't passed over
 abbrev pub AllAreSound : Type 0
 AllAreSound = (w : ℕ) (gates : List Gate) (bank : List (List ℕ)) → SoundPairs w gates bank (allPairs w gates bank)
 
 abbrev pub AllLoseNone : Type 0
 AllLoseNone = (w : ℕ) (gates : List Gate) (bank : List (List ℕ)) → NoneLost w gates bank (allPairs w gates bank)
 
--- 02, 2.3, and b = c passed over: And or Or of a row with itself is that row reduced. It is the row itself only where its words are below 2^w; modulo 2^w it
--- always is, so that with any word it has the product that the atom has
-abbrev pub PassedOverIsAtom : Type 0
-PassedOverIsAtom = (g : Gate) → passesOver g ≡ true → (w : ℕ) (row : List ℕ) → gateRow g w row row ≡ reducedRow w row
+-- ---- 02, 2.3
+-- every word of a pair's row is below 2^w, whatever the bank's are
+abbrev pub PairsReduced : Type 0
+PairsReduced =
+    (w L : ℕ) (gates : List Gate) (bank : List (List ℕ)) (k j : ℕ) → k < length (indexOf w L gates bank .pairs) → getD (getD (indexOf w L gates bank .pairs) k noPair .row) j 0 < 2 ^ w
 
--- and over a lent bank with words at or above 2^w it may stand nowhere. At width 2, of one atom, here a row of one word, 6: its whole index is one pair,
--- of 0, and 6 And 6 is 2
+-- what is passed over, And or Or of a row with itself, is that row reduced. It is the row itself only where its words are below 2^w; modulo 2^w it always is,
+-- so that with any word it has the product that the atom has
+abbrev pub PassedOverIsReduced : Type 0
+PassedOverIsReduced = (g : Gate) → passesOver g ≡ true → (w : ℕ) (row : List ℕ) → gateRow g w row row ≡ reducedRow w row
+
+-- one atom, here a row of one word, 6
+abbrev pub rawBank : List (List ℕ)
+rawBank = (6 ∷ []) ∷ []
+
+-- and over a lent bank with words at or above 2^w it may stand nowhere: at width 2 that atom's whole index is one pair, of 0, and 6 And 6 is 2
 pub record PassedOverIsLost : Type 0 where
-  pub whole : indexOf 2 1 allGates ((6 ∷ []) ∷ []) ≡ record { pairs = record { gate = Xor; b = 0; c = 0; row = 0 ∷ [] } ∷ []; cut = false }
-  pub lost : gateRow And 2 (6 ∷ []) (6 ∷ []) ≡ 2 ∷ []
+  pub whole : indexOf 2 1 allGates rawBank ≡ record { pairs = record { gate = Xor; b = 0; c = 0; row = 0 ∷ [] } ∷ []; cut = false }
+  pub row : gateRow And 2 (6 ∷ []) (6 ∷ []) ≡ 2 ∷ []
+  pub no-atom : holds rawBank (2 ∷ []) ≡ false
+  pub no-pair : holds (rowsIn (indexOf 2 1 allGates rawBank .pairs)) (2 ∷ []) ≡ false

@@ -97,7 +97,7 @@ addNew w bank seen [] = seen
 addNew w bank seen (t ∷ ts) =
     cond (holds bank (trialRow w bank t) || holds (rowsIn seen) (trialRow w bank t)) (addNew w bank seen ts) (addNew w bank (seen ++ (pairOf w bank t ∷ [])) ts)
 
--- 01, Uncut means: the rows that the gates give over the bank's atoms and that the bank doesn't hold, each counted once. No limit and no mark
+-- 01, Uncut means: the rows that the gates give over the bank's atoms, trial by trial, and that the bank doesn't hold, each counted once. No limit and no mark
 unfoldable pub allPairs : ℕ → List Gate → List (List ℕ) → List Pair
 unfolding addNew trialsOf
 allPairs w gates bank = addNew w bank [] (trialsOf gates (length bank))

@@ -68,6 +68,9 @@ gate-cong g w p q = joined-cong g w p q .same
 pub gate-raw : (g : Gate) (w a b : ℕ) → gateOf g w a b ≡ gateOf g w (a % 2 ^ w) (b % 2 ^ w)
 gate-raw g w a b = gate-cong g w (cong-sym (cong-mod (2 ^ w) a)) (cong-sym (cong-mod (2 ^ w) b))
 
+pub gate-raw-right : (g : Gate) (w a b : ℕ) → gateOf g w a (b % 2 ^ w) ≡ gateOf g w a b
+gate-raw-right g w a b = gate-cong g w (cong-refl (2 ^ w) a) (cong-mod (2 ^ w) b)
+
 -- And, Or and Xor of words below 2 ^ w need no reduction
 joined-lt : (g : Gate) → bitwise g ≡ true → (w a b : ℕ) → a < 2 ^ w → b < 2 ^ w → joined g a b < 2 ^ w
 joined-lt And i w a b ha hb = and-lt w a b ha hb
@@ -79,6 +82,12 @@ joined-lt Mul i w a b ha hb = absurd (true-not-false (sym i))
 pub reduced-bit-by-bit : ReducedBitByBit
 unfolding gateOf
 reduced-bit-by-bit g i w a b ha hb = mod-eq-of-lt (joined-lt g i w a b ha hb)
+
+-- Xor with a word that is 0 modulo 2 ^ w gives the word reduced
+pub xor-nought : (w a z : ℕ) → z % 2 ^ w ≡ 0 → gateOf Xor w a z ≡ a % 2 ^ w
+unfolding gateOf
+xor-nought w a z e =
+    gate-cong Xor w {b = z} {b′ = 0} (cong-refl (2 ^ w) a) (record { same = e ∙ sym (mod-eq-of-lt (pow-pos w)) }) ∙ ap (λ (x : ℕ). x % 2 ^ w) (xor-zero-r a)
 
 -- a word with itself, under And and Or, gives the word reduced
 pub and-itself : (w a : ℕ) → gateOf And w a a ≡ a % 2 ^ w

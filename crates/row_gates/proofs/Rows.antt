@@ -10,11 +10,13 @@ use borrow.Author.Tests.{eq-eqb, ne-eqb}
 use lib.ListN.{length, getD}
 use lib.Pow.{pow-pos}
 use Rattle.arrays.proofs.Fill.{length-zipWith, getD-zipWith}
+use Rattle.limits.specs.Refusal.{refuse, outcome}
 use Rattle.limits.proofs.Refusals.{true-not-false}
 use Rattle.row_gates.specs.Gates.{gateOf, gateRow, residualOf, residualRow, reducedRow, sameRow}
 use Rattle.row_gates.specs.Facts.{GateReduces, ResidualReduces, RawAsReduced, RawResidualAsReduced, AboveNeverMatches}
 use Rattle.row_gates.specs.declared.Gate.{Gate}
-use Rattle.row_gates.proofs.GateLaws.{gate-comm, gate-lt, gate-raw, residual-lt, residual-raw}
+use Rattle.row_gates.specs.declared.Gate.the-variants.{Xor}
+use Rattle.row_gates.proofs.GateLaws.{gate-comm, gate-lt, gate-raw, xor-nought, residual-lt, residual-raw}
 
 pub length-gateRow : (g : Gate) (w : ℕ) (a b : List ℕ) → length a ≡ length b → length (gateRow g w a b) ≡ length a
 unfolding gateRow
@@ -46,6 +48,15 @@ pub row-self : (g : Gate) (w : ℕ) → ((a : ℕ) → gateOf g w a a ≡ a % 2 
 unfolding gateRow zipWith
 row-self g w h [] = refl
 row-self g w h (a ∷ x) = ap₂ (λ (n : ℕ) (l : List ℕ). n ∷ l) (h a) (row-self g w h x)
+
+-- and with a row of words that are 0 modulo 2^w, under Xor
+pub row-nought : (w : ℕ) (x z : List ℕ) → length x ≡ length z → ((j : ℕ) → j < length z → getD z j 0 % 2 ^ w ≡ 0) → gateRow Xor w x z ≡ reducedRow w x
+unfolding gateRow zipWith
+row-nought w [] [] e h = refl
+row-nought w [] (b ∷ z) e h = absurd (omega arith)
+row-nought w (a ∷ x) [] e h = absurd (omega arith)
+row-nought w (a ∷ x) (b ∷ z) e h =
+    ap₂ (λ (n : ℕ) (l : List ℕ). n ∷ l) (xor-nought w a b (h 0 (omega arith))) (row-nought w x z (omega arith) (λ j l. h (suc j) (omega arith)))
 
 -- to reduce a row whose words are below 2^w changes nothing
 pub reduced-is : (w : ℕ) (row : List ℕ) → ((j : ℕ) → j < length row → getD row j 0 < 2 ^ w) → reducedRow w row ≡ row
@@ -112,6 +123,7 @@ same-row-not xs ys n = go (sameRow xs ys) refl
 
 -- a target that has a word at or above 2^w is no gate's row
 pub above-never-matches : AboveNeverMatches
-above-never-matches g w a b target j h =
-    same-row-not (gateRow g w a b) target
-    (λ e. let low : getD target j 0 < 2 ^ w = subst (λ (l : List ℕ). getD l j 0 < 2 ^ w) e (gate-reduces g w a b j) in omega arith)
+above-never-matches g w a b target j fit h =
+    ap₂ (λ (x y : Bool). outcome (refuse x 2 0) y) fit
+    (same-row-not (gateRow g w a b) target
+    (λ e. let low : getD target j 0 < 2 ^ w = subst (λ (l : List ℕ). getD l j 0 < 2 ^ w) e (gate-reduces g w a b j) in omega arith))

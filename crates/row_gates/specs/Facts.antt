@@ -5,7 +5,8 @@ use mathlib.Core.Bool.{Bool, true, false}
 use mathlib.Core.List.{List}
 use Prim.Native.Nat.{ℕ, _%_, _^_, _≤_, _<_}
 use lib.ListN.{getD}
-use Rattle.row_gates.specs.Gates.{joined, gateOf, invertible, residualOf, gateRow, residualRow, reducedRow, sameRow}
+use Rattle.limits.specs.Refusal.{badWidth, answer}
+use Rattle.row_gates.specs.Gates.{joined, gateOf, invertible, residualOf, gateRow, residualRow, reducedRow, matched}
 use Rattle.row_gates.specs.declared.Gate.{Gate}
 use Rattle.row_gates.specs.declared.Gate.the-variants.{And, Or, Xor, Add, Mul}
 
@@ -22,6 +23,11 @@ bitwise Mul = false
 abbrev pub GateReduces : Type 0
 GateReduces = (g : Gate) (w : ℕ) (a b : List ℕ) (j : ℕ) → getD (gateRow g w a b) j 0 < 2 ^ w
 
+-- so `gate_matches` never says yes of a target with a word at or above 2^w: it is compared as it is
+abbrev pub AboveNeverMatches : Type 0
+AboveNeverMatches =
+    (g : Gate) (w : ℕ) (a b target : List ℕ) (j : ℕ) → badWidth w ≡ false → 2 ^ w ≤ getD target j 0 → matched g w a b target ≡ answer false
+
 -- raw words give the row that their reduced words give
 abbrev pub RawAsReduced : Type 0
 RawAsReduced = (g : Gate) (w : ℕ) (a b : List ℕ) → gateRow g w a b ≡ gateRow g w (reducedRow w a) (reducedRow w b)
@@ -30,15 +36,12 @@ RawAsReduced = (g : Gate) (w : ℕ) (a b : List ℕ) → gateRow g w a b ≡ gat
 abbrev pub ReducedBitByBit : Type 0
 ReducedBitByBit = (g : Gate) → bitwise g ≡ true → (w a b : ℕ) → a < 2 ^ w → b < 2 ^ w → gateOf g w a b ≡ joined g a b
 
--- so a target with a word at or above 2^w never matches
-abbrev pub AboveNeverMatches : Type 0
-AboveNeverMatches = (g : Gate) (w : ℕ) (a b target : List ℕ) (j : ℕ) → 2 ^ w ≤ getD target j 0 → sameRow (gateRow g w a b) target ≡ false
-
 -- ---- residuals
 -- 02, 2.3: the inverse of Xor likewise
 abbrev pub ResidualReduces : Type 0
 ResidualReduces = (g : Gate) (w : ℕ) (target a : List ℕ) (j : ℕ) → getD (residualRow g w target a) j 0 < 2 ^ w
 
+-- raw words have the residual that their reduced words have
 abbrev pub RawResidualAsReduced : Type 0
 RawResidualAsReduced = (g : Gate) (w : ℕ) (target a : List ℕ) → residualRow g w target a ≡ residualRow g w (reducedRow w target) (reducedRow w a)
 

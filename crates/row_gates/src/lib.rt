@@ -1,4 +1,4 @@
-// Gates on rows of sixteen words, from cobra-simd lib.rs. The scalar path is the reference; a width takes the place of the mask.
+// Gates on rows of sixteen words, from cobra-simd lib.rs, whose scalar path is the reference on reduced words; a width takes the place of the mask.
 pub mod inner;
 
 ghost use mathlib.Core.Path.{_≡_};

@@ -1,4 +1,5 @@
--- What an index build that wasn't turned back left, as a search reads it: each pair's row is a gate's row of two atoms, and none is lost if it is uncut.
+-- What an index build that wasn't turned back left, as a search reads it: each pair's row is a gate's row of two atoms, and if it is uncut none is lost but
+-- those passed over, which are an atom's row reduced.
 -- Assumes nothing.
 use mathlib.Core.Path.{_≡_, refl, sym, ap, ap₂, _∙_, subst}
 use mathlib.Core.Bool.{Bool, true, false, cond}
@@ -26,7 +27,7 @@ use Rattle.index_spec.specs.Encoding.{pairRow}
 use Rattle.index.specs.Build.{orderList, indexRefusal, lentIndex, Summary, summaryOf}
 use Rattle.index_spec.specs.Facts.{Holds, noPair}
 use Rattle.index_order.proofs.OrderLaws.{order-length}
-use Rattle.index_spec.proofs.IndexLaws.{index-is-sound, uncut-loses-none, passed-over-is-atom, rows-length}
+use Rattle.index_spec.proofs.IndexLaws.{index-is-sound, uncut-loses-none, passed-over-is-reduced, rows-length}
 use Rattle.index_spec.proofs.RowLaws.{length-rowsOf, rows-at, gate-long}
 use Rattle.index.proofs.Passing.{none-refused}
 use Rattle.search_product.specs.Demand.{OwnIndex, Uncut}
@@ -161,7 +162,7 @@ module _ {w count : ℕ} {atoms : List ℕ} {L : ℕ} (fit : Fit w count atoms L
       abbrev row : List ℕ
       row = gateRow g w (partAt 16 atoms b) (partAt 16 atoms c)
 
-      tried-kept : (passesOver g ≡ true → b ≡ c → ⊥) → Has count atoms row ⊎ Has n listed row
+      pub tried-kept : (passesOver g ≡ true → b ≡ c → ⊥) → Has count atoms row ⊎ Has n listed row
       unfolding indexOf
       tried-kept other =
           let long = length-rowsOf count atoms in
@@ -178,7 +179,7 @@ module _ {w count : ℕ} {atoms : List ℕ} {L : ℕ} (fit : Fit w count atoms L
         | inr f ↦ inl (tried-kept (λ p. absurd (false-true (sym f ∙ p))))
         | inl p ↦ elim (ℕ-discrete b c) [
           | no n ↦ inl (tried-kept (λ _. n))
-          | yes e ↦ inr (subst (λ (k : ℕ). gateRow g w (partAt 16 atoms b) (partAt 16 atoms k) ≡ reducedRow w (partAt 16 atoms b)) e (passed-over-is-atom g p w (partAt 16 atoms b)))
+          | yes e ↦ inr (subst (λ (k : ℕ). gateRow g w (partAt 16 atoms b) (partAt 16 atoms k) ≡ reducedRow w (partAt 16 atoms b)) e (passed-over-is-reduced g p w (partAt 16 atoms b)))
         ]
       ]
 

@@ -53,7 +53,8 @@ pub record OwnIndex (w count : ℕ) (atoms : List ℕ) (L n : ℕ) (listed order
   pub rows-are : take (16 * n) listed ≡ encode pairRow (lentIndex w count atoms L .pairs)
   pub order-is : take n order ≡ orderList (lentIndex w count atoms L .pairs)
 
--- uncut: the rows that this build's gates give over the bank's atoms and that the bank doesn't hold, each counted once, are at most L
+-- uncut: the rows that this build's gates give over the bank's atoms, in its trials, and that the bank doesn't hold, each counted once, are at most L. And and
+-- Or of an atom with itself are not tried and not counted; they give that atom's row, modulo 2^w
 abbrev pub Uncut : ℕ → ℕ → List ℕ → ℕ → Type 0
 Uncut w count atoms L = length (allPairs w allGates (rowsOf count atoms)) ≤ L
 

@@ -1,4 +1,4 @@
-// The residual search, 02's sums and xors: what `gate_residual` of cobra-simd gives, looked up as `ValMap::find` of template_decomposer.rs does; the order is 02's.
+// The residual search, 02's sums and xors: what `gate_residual` of row_gates gives, looked up as `ValMap::find` of template_decomposer.rs does; the order is 02's.
 pub mod inner;
 
 use row_gates::Gate;

@@ -3,7 +3,7 @@ use mathlib.Core.Path.{_≡_}
 use mathlib.Core.List.{List}
 use mathlib.Core.Logic.{_⊎_, _↔_}
 use mathlib.Core.Option.{Option, none, some}
-use Prim.Native.Nat.{ℕ, _^_, _≤_, _<_}
+use Prim.Native.Nat.{ℕ, _%_, _^_, _≤_, _<_}
 use lib.ListN.{length, getD}
 use Rattle.arrays.specs.Parts.{partAt}
 use Rattle.limits.specs.Refusal.{answer}
@@ -28,6 +28,12 @@ Gives outer w target a b = (j : ℕ) → j < 16 → gateOf outer w (getD a j 0) 
 -- bank rows below 2^w
 abbrev pub RowsBelow : ℕ → ℕ → List ℕ → Type 0
 RowsBelow w count atoms = (a j : ℕ) → a < count → j < 16 → getD (partAt 16 atoms a) j 0 < 2 ^ w
+
+-- an atom that is 0 modulo 2^w in all sixteen places
+pub record ZeroAtom (w count : ℕ) (atoms : List ℕ) : Type 0 where
+  pub slot : ℕ
+  pub below : slot < count
+  pub zeros : (j : ℕ) → j < 16 → getD (partAt 16 atoms slot) j 0 % 2 ^ w ≡ 0
 
 -- no atoms a, b, c and gate g give the target as a with b, or as a with (b g c), under either outer gate
 pub record NoResidual (w count : ℕ) (atoms target : List ℕ) : Type 0 where
@@ -73,17 +79,29 @@ SumsAndXors =
     → completion w count atoms n listed target ≡ answer found
     → (found ≡ none) ↔ NoResidual w count atoms target
 
+-- 02, 2.3: Xor reduces, so that an atom of zeros gives every atom's row reduced. With one, "nothing" is true of every lent bank, its words may reach 2^w
+abbrev pub NothingWithZero : Type 0
+NothingWithZero =
+    (w count : ℕ) (atoms : List ℕ) (L n : ℕ) (listed order target : List ℕ) (found : Option Completion)
+    → ZeroAtom w count atoms → OwnIndex w count atoms L n listed order → Uncut w count atoms L → length target ≡ 16
+    → completion w count atoms n listed target ≡ answer found
+    → (found ≡ none) ↔ NoResidual w count atoms target
+
+-- every built bank has one at every width, the constant 0
+abbrev pub BuiltHasZero : Type 0
+BuiltHasZero = (w count : ℕ) (atoms : List ℕ) → BuiltBank count atoms → ZeroAtom w count atoms
+
+-- so on a built bank with an uncut index of its own "nothing" is true, whatever the width that the bank was built at
+abbrev pub NothingOnBuilt : Type 0
+NothingOnBuilt =
+    (w count : ℕ) (atoms : List ℕ) (L n : ℕ) (listed order target : List ℕ) (found : Option Completion)
+    → BuiltBank count atoms → OwnIndex w count atoms L n listed order → Uncut w count atoms L → length target ≡ 16
+    → completion w count atoms n listed target ≡ answer found
+    → (found ≡ none) ↔ NoResidual w count atoms target
+
 -- bank rows below 2^w: those of a bank built at the width of the search, or at a smaller one
 abbrev pub BuiltRowsBelow : Type 0
 BuiltRowsBelow = (w count : ℕ) (atoms : List ℕ) (built : BuiltBank count atoms) → built .w ≤ w → RowsBelow w count atoms
-
--- so on a bank built at the width of the search, or at a smaller one, with an uncut index of its own, "nothing" is true
-abbrev pub NothingOnBuilt : Type 0
-NothingOnBuilt =
-    (w count : ℕ) (atoms : List ℕ) (L n : ℕ) (listed order target : List ℕ) (found : Option Completion) (built : BuiltBank count atoms)
-    → built .w ≤ w → OwnIndex w count atoms L n listed order → Uncut w count atoms L → length target ≡ 16
-    → completion w count atoms n listed target ≡ answer found
-    → (found ≡ none) ↔ NoResidual w count atoms target
 
 -- 02, 2.1: it turns back as the product search does that is lent the right order list
 abbrev pub TurnsBackAlike : Type 0
