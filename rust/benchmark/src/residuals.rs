@@ -8,7 +8,8 @@ use std::iter;
 
 use oracle::access::{self, Completion, Part, Row};
 use oracle::made::banks::largest;
-use oracle::spec::residual::{reduced_gate, OUTER_GATES};
+use oracle::spec::gates::gate_row;
+use oracle::spec::residual::OUTER_GATES;
 use simjaldek::lent::{self, Atoms, PairRows};
 use simjaldek::{AtomSlot, Completion as Ours, Gate, PairSlot, ATOMS_MAX, PAIRS_MAX, ROW_WORDS};
 
@@ -150,7 +151,7 @@ impl Plain<'_> {
         let mut residuals = HashMap::with_capacity(2 * count);
         let mask = largest(self.width);
         for (place, row) in rows(self.atoms.rows, count).enumerate() {
-            let xor = std::array::from_fn(|i| self.target[i] ^ row[i]);
+            let xor = std::array::from_fn(|i| (self.target[i] ^ row[i]) & mask);
             residuals.entry(xor).or_insert(place);
         }
         for (place, row) in rows(self.atoms.rows, count).enumerate() {
@@ -201,7 +202,7 @@ fn late(setting: &Setting) -> Option<Row> {
     let mut sum = || {
         let atom = setting.ours.atom_row(inputs.below(atoms) as usize);
         let pair = setting.ours.pair_row(inputs.below(pairs) as usize);
-        reduced_gate(&atom, &pair, OUTER_GATES[1], setting.width)
+        gate_row(&atom, &pair, OUTER_GATES[1], setting.width)
     };
     let place = |target: &Row| {
         let found = rust_search(setting, target)?;
@@ -213,10 +214,11 @@ fn late(setting: &Setting) -> Option<Row> {
 #[cfg(test)]
 mod tests {
     use super::{Plain, Row};
-    use oracle::access::{self, Completion, Part};
+    use oracle::access::{Completion, Part};
     use oracle::inputs::Inputs;
     use oracle::made::rows::{few_rows, late_one_of};
-    use oracle::spec::residual::{reduced_gate, OUTER_GATES};
+    use oracle::spec::gates::gate_row;
+    use oracle::spec::residual::{try_everything, OUTER_GATES};
     use simjaldek::lent::{Atoms, PairRows};
 
     fn search(width: u32, atoms: &[Row], pairs: &[Row], target: &Row) -> Option<Completion> {
@@ -236,7 +238,7 @@ mod tests {
         plain.search()
     }
 
-    /// The plain pass finds what the originals' loop finds, also where rows repeat.
+    /// The plain pass finds what trying everything finds, also where rows repeat and where words reach 2^width.
     #[test]
     fn plain_pass() {
         let inputs = &mut Inputs::from_seed(5);
@@ -251,12 +253,9 @@ mod tests {
             let (atoms, pairs) = (some(6), some(9));
             let (a, b) = (late_one_of(inputs, &atoms), late_one_of(inputs, &pairs));
             let gate = inputs.one_of(&OUTER_GATES);
-            let target = reduced_gate(&a, &b, gate, width);
+            let target = gate_row(&a, &b, gate, width);
             let found = search(width, &atoms, &pairs, &target);
-            assert_eq!(
-                access::completions(&[target], &atoms, &pairs, width),
-                [found]
-            );
+            assert_eq!(try_everything(&target, &atoms, &pairs, width), found);
             let is_pair = |found: Completion| matches!(found.other, Part::Pair(_));
             pairs_found += u32::from(found.is_some_and(is_pair));
         }

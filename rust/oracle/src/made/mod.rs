@@ -1,5 +1,6 @@
-//! Inputs made at random: formulas of given shapes, points and targets of several styles, rows of few kinds.
+//! Inputs made at random: formulas of given shapes, points and targets of several styles, rows of few kinds; and the indexes of rows.
 
 pub mod banks;
 pub mod formulas;
+pub mod indexes;
 pub mod rows;

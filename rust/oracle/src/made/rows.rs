@@ -36,6 +36,19 @@ pub fn near(inputs: &mut Inputs, mut row: Row, width: u32) -> Row {
     row
 }
 
+/// A row with a bit from 2^width up set: in one word (the first, the last or any), or in every one. At width 64 there is none.
+pub fn raised(inputs: &mut Inputs, mut row: Row, width: u32) -> Row {
+    let any = inputs.below(16) as usize;
+    let one = inputs.one_of(&[0, 15, any]);
+    let all = inputs.below(2) == 0;
+    for (place, word) in row.iter_mut().enumerate() {
+        if width < 64 && (all || place == one) {
+            *word |= 1 << (u64::from(width) + inputs.below(u64::from(64 - width)));
+        }
+    }
+    row
+}
+
 /// One of the rows; every other time one of the last quarter.
 pub fn late_one_of(inputs: &mut Inputs, rows: &[Row]) -> Row {
     match inputs.below(2) {

@@ -2,10 +2,12 @@
 
 use std::collections::HashSet;
 
-use crate::access::Row;
+use crate::access::{IndexView, Row};
 
 use super::bank::ATOMS_MAX;
-use super::formulas::{gate_word, ADD, AND, GATE_OPS, MUL, OR};
+use super::formulas::{AND, GATE_OPS, OR};
+use super::gates::gate_row;
+use super::product::order_list;
 use super::refusals::{NONE, REFUSED_COUNT, REFUSED_LENGTH, REFUSED_LIMIT, REFUSED_WIDTH};
 
 /// The largest limit.
@@ -24,7 +26,7 @@ pub fn index(atoms: &[Row], width: u32, limit: usize) -> Index {
     let mut held: HashSet<Row> = atoms.iter().copied().collect();
     let mut index = Index::default();
     for [gate, b, c] in trials(atoms.len()) {
-        let row = gate_row(GATE_OPS[gate], &atoms[b], &atoms[c], width);
+        let row = gate_row(&atoms[b], &atoms[c], gate, width);
         if !held.insert(row) {
             continue;
         }
@@ -38,24 +40,27 @@ pub fn index(atoms: &[Row], width: u32, limit: usize) -> Index {
     index
 }
 
+/// The first pairs, up to a limit, with their order list, as the originals' table is shown.
+pub fn view(atoms: &[Row], width: u32, limit: usize) -> IndexView {
+    let mut whole = index(atoms, width, PAIRS_MAX as usize);
+    let all = whole.pairs.len();
+    whole.pairs.truncate(limit);
+    whole.rows.truncate(limit);
+    let first_words: Vec<u64> = whole.rows.iter().map(|row| row[0]).collect();
+    IndexView {
+        pairs: whole.pairs,
+        rows: whole.rows,
+        order: order_list(&first_words),
+        all,
+    }
+}
+
 /// Every gate with b and c from b upward; And and Or not with b twice.
 fn trials(count: usize) -> impl Iterator<Item = [usize; 3]> {
     let all = (0..GATE_OPS.len())
         .flat_map(move |gate| (0..count).map(move |b| (gate, b)))
         .flat_map(move |(gate, b)| (b..count).map(move |c| [gate, b, c]));
     all.filter(|&[gate, b, c]| b != c || !matches!(GATE_OPS[gate], AND | OR))
-}
-
-/// And, Or, Xor leave high bits in place; Add and Mul reduce.
-fn gate_row(op: u8, left: &Row, right: &Row, width: u32) -> Row {
-    std::array::from_fn(|place| {
-        let word = gate_word(op, left[place].into(), right[place].into());
-        if op == ADD || op == MUL {
-            (word % (1 << width)) as u64
-        } else {
-            word as u64
-        }
-    })
 }
 
 /// What is handed to the index build, good or not; of the lent arrays their lengths.
@@ -99,5 +104,47 @@ impl Handed {
         needed
             .iter()
             .any(|&(length, needed)| u128::from(length) < needed)
+    }
+}
+
+#[cfg(test)]
+mod tests {
+    use super::{index, view};
+    use crate::access::{self, Row};
+    use crate::inputs::Inputs;
+    use crate::made::rows::few_rows;
+    use crate::spec::gates::are_reduced;
+
+    fn all(words: &[u64]) -> Vec<Row> {
+        words.iter().map(|&word| [word; 16]).collect()
+    }
+
+    /// Over reduced rows the view is the originals', whatever the limit.
+    #[test]
+    fn reduced_rows() {
+        let inputs = &mut Inputs::from_seed(6);
+        for turn in 0..200 {
+            let width = 1 + turn % 5;
+            let rows = few_rows(inputs, width);
+            let limit = inputs.one_of(&[0, 1, 7, 1000]);
+            assert_eq!(
+                view(&rows, width, limit),
+                access::index(&rows, width, limit)
+            );
+        }
+    }
+
+    /// Over any rows those of the pairs are reduced. And and Or pass over b = c: a single atom has neither, though 6 And 6 is 2 at width 2.
+    #[test]
+    fn raw_rows() {
+        let inputs = &mut Inputs::from_seed(7);
+        for turn in 0..200 {
+            let width = 1 + turn % 5;
+            let rows = few_rows(inputs, width + 2);
+            assert!(are_reduced(&index(&rows, width, 1000).rows, width));
+        }
+        assert_eq!(index(&all(&[6]), 2, 9).pairs, [[2, 0, 0]]);
+        let two = index(&all(&[1, 2]), 1, 9);
+        assert_eq!((two.pairs, two.rows), (vec![[0, 0, 1]], all(&[0])));
     }
 }

@@ -3,6 +3,7 @@
 
 pub mod bank;
 pub mod formulas;
+pub mod gates;
 pub mod index;
 pub mod lent;
 pub mod listing;

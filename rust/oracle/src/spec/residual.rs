@@ -2,7 +2,8 @@
 
 use crate::access::{Completion, Part, Row};
 
-use super::formulas::{gate_word, ADD, GATE_OPS, XOR};
+use super::formulas::GATE_OPS;
+use super::gates::{gate_row, gives, residual_row};
 
 /// The numbers of the outer gates, in the order in which they are tried.
 pub const OUTER_GATES: [usize; 2] = [2, 3];
@@ -17,7 +18,7 @@ pub fn try_everything(
 ) -> Option<Completion> {
     for gate in OUTER_GATES {
         for (atom, row) in atoms.iter().enumerate() {
-            let residual = residual(target, row, gate, width);
+            let residual = residual_row(target, row, gate, width);
             let slots = (0..atoms.len()).map(Part::Atom);
             for other in slots.chain((0..pairs.len()).map(Part::Pair)) {
                 if *row_of(other, atoms, pairs) == residual {
@@ -37,45 +38,16 @@ pub fn row_of<'a>(part: Part, atoms: &'a [Row], pairs: &'a [Row]) -> &'a Row {
     }
 }
 
-/// The row that completes a row to the target: under Xor high bits stay in place, under Add it is the difference modulo 2^width.
-fn residual(target: &Row, row: &Row, gate: usize, width: u32) -> Row {
-    let modulus = 1u128 << width;
-    std::array::from_fn(|i| {
-        let [t, a] = [target[i], row[i]].map(u128::from);
-        let word = match GATE_OPS[gate] {
-            XOR => gate_word(XOR, t, a),
-            ADD => (t % modulus + modulus - a % modulus) % modulus,
-            op => panic!("opcode {op}"),
-        };
-        word as u64
-    })
-}
-
-/// A gate of two rows, reduced.
-pub fn reduced_gate(left: &Row, right: &Row, gate: usize, width: u32) -> Row {
-    std::array::from_fn(|i| reduced_word(left[i], right[i], gate, width))
-}
-
-fn reduced_word(left: u64, right: u64, gate: usize, width: u32) -> u64 {
-    let word = gate_word(GATE_OPS[gate], left.into(), right.into());
-    (word % (1 << width)) as u64
-}
-
-/// Whether the reduced gate of two rows is the target.
-pub fn gives(left: &Row, right: &Row, gate: usize, target: &Row, width: u32) -> bool {
-    (0..16).all(|i| reduced_word(left[i], right[i], gate, width) == target[i])
-}
-
-/// Whether atoms a, b, c and a gate g give the target as a with b, or as a with (b g c), under either outer gate. For rows below
-/// 2^width; there is no index here.
+/// Whether atoms a, b, c and a gate g give the target as a with b, or as a with (b g c), under either outer gate; there is no
+/// index here. With a whole index something is found exactly then, if the atoms' rows are below 2^width.
 pub fn is_given(target: &Row, atoms: &[Row], width: u32) -> bool {
     let completes = |row: &Row| {
         let mut outer = OUTER_GATES.iter();
-        outer.any(|&gate| atoms.iter().any(|a| gives(a, row, gate, target, width)))
+        outer.any(|&gate| atoms.iter().any(|a| gives(a, row, target, gate, width)))
     };
     let inner = |b: &Row| {
         let mut all = (0..GATE_OPS.len()).flat_map(|g| atoms.iter().map(move |c| (g, c)));
-        all.any(|(g, c)| completes(&reduced_gate(b, c, g, width)))
+        all.any(|(g, c)| completes(&gate_row(b, c, g, width)))
     };
     atoms.iter().any(completes) || atoms.iter().any(inner)
 }
@@ -85,6 +57,8 @@ mod tests {
     use super::{is_given, try_everything};
     use crate::access::{self, Completion, Part, Row};
     use crate::inputs::Inputs;
+    use crate::spec::gates::are_reduced;
+    use crate::spec::index::index;
 
     fn all(words: &[u64]) -> Vec<Row> {
         words.iter().map(|&word| [word; 16]).collect()
@@ -94,28 +68,41 @@ mod tests {
         Some(Completion { gate, atom, other })
     }
 
-    /// Both statements of the order, on rows all of one word: the plain one and the originals' loop.
+    /// The answer over rows all of one word; the originals' loop has the same where all are below 2^width.
     fn ask(width: u32, atoms: &[u64], pairs: &[u64], target: u64) -> Option<Completion> {
         let (atoms, pairs, target) = (all(atoms), all(pairs), [target; 16]);
         let answer = try_everything(&target, &atoms, &pairs, width);
-        let rust = access::completions(&[target], &atoms, &pairs, width);
-        assert_eq!(rust, [answer]);
+        if are_reduced(&atoms, width) && are_reduced(&pairs, width) {
+            let rust = access::completions(&[target], &atoms, &pairs, width);
+            assert_eq!(rust, [answer]);
+        }
         answer
     }
 
     #[test]
     fn order() {
-        // Xor leaves high bits in place, Add doesn't
-        assert_eq!(ask(8, &[257, 4], &[], 5), found(3, 0, Part::Atom(1)));
-        assert_eq!(ask(8, &[257, 260], &[], 5), found(2, 0, Part::Atom(1)));
         // Xor before Add, though Add has the lesser atom
         assert_eq!(ask(8, &[3, 2, 7], &[], 5), found(2, 1, Part::Atom(2)));
         // the bank before the index, the lesser atom before both
         assert_eq!(ask(8, &[1, 4, 4], &[4, 4], 5), found(2, 0, Part::Atom(1)));
         assert_eq!(ask(8, &[1, 2, 7], &[4], 5), found(2, 0, Part::Pair(0)));
-        // b below a: 4 completes 257, and 257 isn't the 1 that completes 4
-        assert_eq!(ask(8, &[4, 257], &[], 5), found(3, 1, Part::Atom(0)));
         assert_eq!(ask(8, &[], &[5], 5), None);
+    }
+
+    /// Words that reach 2^width: what completes them is reduced, so they are completed and never complete.
+    #[test]
+    fn raw_rows() {
+        assert_eq!(ask(8, &[257, 4], &[], 5), found(2, 0, Part::Atom(1)));
+        assert_eq!(ask(8, &[257, 260], &[], 5), None);
+        // b below a: 4 completes 257, and 257 isn't the 1 that completes 4
+        assert_eq!(ask(8, &[4, 257], &[], 5), found(2, 1, Part::Atom(0)));
+        assert_eq!(ask(1, &[2], &[], 0), None);
+        assert_eq!(ask(1, &[2], &[0], 0), found(2, 0, Part::Pair(0)));
+        // a whole index, and yet 6 ^ 6 is 0
+        let whole = index(&all(&[6]), 2, 9);
+        assert_eq!((whole.rows, whole.cut), (all(&[0]), false));
+        assert_eq!(ask(2, &[6], &[0], 0), None);
+        assert!(is_given(&[0; 16], &all(&[6]), 2));
     }
 
     /// Over whole indexes of reduced rows nothing is found exactly where nothing gives the target: every target of two words.
