@@ -5,7 +5,7 @@
 //! `differential answers NAME`: the data file of that name of crates/compare/data, the originals' answers for the program that compares.
 //! `differential program PATH`: the load program at PATH, over a pipe, beside the plain statement of what it prints, byte by byte;
 //! `differential load`: that statement as a program.
-//! `differential differences`: where the originals' search differs from the specification, for a reader.
+//! `differential differences`: where the originals differ from the specification, for a reader; our library is asked for the same.
 
 use std::env;
 use std::io::{self, BufWriter, Read, Write};
@@ -21,6 +21,8 @@ fn main() -> ExitCode {
     match arguments.iter().map(String::as_str).collect::<Vec<_>>()[..] {
         ["differences"] => {
             differences::print();
+            differential::differences::confirm();
+            println!("Our library has the specification's answers to all named inputs");
             ExitCode::SUCCESS
         }
         ["answers", name] => {

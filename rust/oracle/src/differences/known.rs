@@ -9,13 +9,14 @@ use crate::made::banks::BankInput;
 use crate::spec::formulas::{CONSTANT, VARIABLE};
 use crate::spec::product::{self, Answer};
 
-/// An input of one variable: the bank's width, points and target (one word throughout), the width of index and search, the
+/// An input of one variable: the bank's width, points and target (one word throughout), the widths of index and search, the
 /// row searched for; then the specification's answer and the Rust's.
 pub struct Input {
     name: &'static str,
     bank_width: u32,
     points: &'static [u64],
     bank_target: u64,
+    pub index_width: u32,
     pub width: u32,
     target: &'static [u64],
     pub answer: Answer,
@@ -38,46 +39,61 @@ impl Input {
     }
 }
 
-pub const PRODUCT_LOOP: [Input; 4] = [
+pub const PRODUCT_LOOP: [Input; 5] = [
     Input {
         name: "D1, known",
         bank_width: 3,
-        points: &[0, 1, 2, 3, 4, 5, 6, 7],
-        bank_target: 0,
-        width: 2,
-        target: &[3, 1, 3, 3],
-        answer: Answer::AtomAndPair(1, 92),
-        rust: None,
-    },
-    Input {
-        name: "D1, least widths",
-        bank_width: 3,
         points: &[0, 1, 2, 3],
         bank_target: 0,
+        index_width: 3,
         width: 2,
         target: &[3, 1, 3, 3],
         answer: Answer::AtomAndPair(1, 74),
         rust: None,
     },
     Input {
+        name: "D1, least widths",
+        bank_width: 3,
+        points: &[0, 1, 2, 7],
+        bank_target: 0,
+        index_width: 3,
+        width: 2,
+        target: &[1, 0, 1, 2],
+        answer: Answer::AtomAndPair(11, 52),
+        rust: None,
+    },
+    Input {
+        name: "D1, least widths where the Rust finds another pair",
+        bank_width: 3,
+        points: &[0, 2, 7],
+        bank_target: 0,
+        index_width: 3,
+        width: 2,
+        target: &[3, 1, 1],
+        answer: Answer::AtomAndPair(1, 30),
+        rust: Some((3, 28)),
+    },
+    Input {
         name: "D1, fewest atoms",
-        bank_width: 6,
+        bank_width: 5,
         points: &[0],
-        bank_target: 4,
-        width: 5,
-        target: &[25],
-        answer: Answer::AtomAndPair(1, 6),
+        bank_target: 0,
+        index_width: 5,
+        width: 4,
+        target: &[11],
+        answer: Answer::AtomAndPair(1, 3),
         rust: None,
     },
     Input {
         name: "D1, fewest atoms where the Rust finds another pair",
         bank_width: 5,
         points: &[0],
-        bank_target: 10,
+        bank_target: 0,
+        index_width: 5,
         width: 4,
         target: &[5],
-        answer: Answer::AtomAndPair(1, 4),
-        rust: Some((3, 3)),
+        answer: Answer::AtomAndPair(3, 3),
+        rust: Some((5, 6)),
     },
 ];
 
@@ -87,6 +103,7 @@ pub const FIRST_STAGE: [Input; 3] = [
         bank_width: 2,
         points: &[0, 1, 2, 3],
         bank_target: 0,
+        index_width: 2,
         width: 2,
         target: &[0, 1],
         answer: Answer::TwoAtoms(1, 8),
@@ -97,6 +114,7 @@ pub const FIRST_STAGE: [Input; 3] = [
         bank_width: 2,
         points: &[0, 2],
         bank_target: 0,
+        index_width: 2,
         width: 2,
         target: &[1, 3],
         answer: Answer::TwoAtoms(1, 6),
@@ -107,6 +125,7 @@ pub const FIRST_STAGE: [Input; 3] = [
         bank_width: 3,
         points: &[0],
         bank_target: 0,
+        index_width: 3,
         width: 3,
         target: &[6],
         answer: Answer::TwoAtoms(1, 4),
@@ -133,17 +152,20 @@ pub fn print() {
 
 /// Prints the input and the specification's answer.
 fn ask(input: &Input) -> (Setting, Row) {
-    let setting = Setting::new(input.bank().bank(), PAIRS_MAX, input.width);
+    let atoms = input.bank().bank();
+    let setting = Setting::with_index(atoms, PAIRS_MAX, input.index_width, input.width);
     let target = input.row();
     println!(
-        "{}: bank of width {} at the points {:?}, bank target all {}: {} atoms; width {}: {} pairs; target {:?}",
+        "{}: bank of width {} at the points {:?}, bank target all {}: {} atoms; index of width {}: {} pairs; search at width {}, \
+         target {:?}",
         input.name,
         input.bank_width,
         input.points,
         input.bank_target,
         setting.rows.len(),
-        input.width,
+        input.index_width,
         setting.index.pairs.len(),
+        input.width,
         input.target,
     );
     assert_eq!(setting.try_everything(&target), input.answer);
@@ -178,20 +200,40 @@ fn text(formula: &Formula) -> String {
     format!("`{}`", tokens.join(" "))
 }
 
-/// D1 by lent rows that no build made, each of one word: with an index of its own, and with a pair that no gate gives.
-fn print_lent() {
-    let own = access::index(&[[13; 16], [1; 16]], 3, PAIRS_MAX);
-    let own_words: Vec<u64> = own.rows.iter().map(|row| row[0]).collect();
-    print_lent_case("index of its own", &[13, 1], &own_words, 3, 4);
-    print_lent_case("any index", &[1], &[2], 1, 0);
+/// D1 by rows that no build made, each of one word.
+pub struct Lent {
+    pub width: u32,
+    pub atom: u64,
+    pub pair: u64,
+    pub target: u64,
 }
 
-fn print_lent_case(name: &str, atoms: &[u64], pairs: &[u64], width: u32, target: u64) {
-    let rows = |words: &[u64]| -> Vec<Row> { words.iter().map(|&word| [word; 16]).collect() };
-    let (atom_rows, pair_rows, target_row) = (rows(atoms), rows(pairs), [target; 16]);
-    let order = product::order_list(pairs);
-    let answer = product::try_everything(&target_row, &atom_rows, &pair_rows, &order, width);
-    let rust = access::product_loop(target_row, &atom_rows, &pair_rows, width);
-    println!("D1, lent rows, {name}: width {width}, atoms all {atoms:?}, pairs all {pairs:?}, target all {target}");
-    println!("  trying everything: {answer:?}; Rust's product loop: {rust:?}");
+/// The specification finds the atom with the pair, and lists the pair for p = atom and t = target; the Rust does neither.
+pub const LENT: Lent = Lent {
+    width: 1,
+    atom: 1,
+    pair: 2,
+    target: 0,
+};
+
+fn print_lent() {
+    let Lent {
+        width,
+        atom,
+        pair,
+        target,
+    } = LENT;
+    let (atoms, pairs, row) = ([[atom; 16]], [[pair; 16]], [target; 16]);
+    let answer = product::try_everything(&row, &atoms, &pairs, &[0], width);
+    assert_eq!(answer, Answer::AtomAndPair(0, 0));
+    assert_eq!(access::product_loop(row, &atoms, &pairs, width), None);
+    let listed = product::candidates(&[pair], atom, target, width);
+    assert_eq!(listed, Some(vec![0]));
+    let rust = access::candidates(&[pair], atom, target, width);
+    assert_eq!(rust, (true, vec![]));
+    println!(
+        "D1, lent rows: width {width}, an atom all {atom}, a pair all {pair}, target all {target}"
+    );
+    println!("  trying everything: {answer:?}; Rust's product loop: none");
+    println!("  candidates for p = {atom}, t = {target}: slot 0; Rust's: none");
 }

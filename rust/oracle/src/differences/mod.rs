@@ -1,15 +1,18 @@
-//! Where the originals' search for products differs from the specification, as text for a reader. `known` and `smallest` are
-//! about the two differences that there are; `random` looks for more where none is expected.
+//! Where the originals differ from the specification, as text for a reader. `known` and `smallest` are about the two differences of the
+//! product search, `gates` about that of the gates; `random` looks for more where none is expected.
 //!
-//! D1: the Rust's filter misses pairs whose first word is not below 2^w. That takes a bank of a greater width than the
-//! index and the search. D2: the Rust's first stage keeps the cheapest two atoms, the specification the first.
+//! D1: the Rust's filter misses pairs whose first word is not below 2^w. That takes a lent index: one of a greater width than the
+//! search's, or rows that no build made. D2: the Rust's first stage keeps the cheapest two atoms, the specification the first. D3: the
+//! Rust's And, Or and Xor, and its inverse of Xor, don't reduce.
 
+pub mod gates;
 pub mod known;
 mod random;
 mod smallest;
 
 use crate::access::{self, AtomView, Cost, Formula, IndexView, Row};
 
+use crate::made::indexes;
 use crate::spec::formulas as spec;
 use crate::spec::product::{self, Answer};
 
@@ -19,11 +22,12 @@ const PAIRS_MAX: usize = 1 << 18;
 /// Prints everything.
 pub fn print() {
     known::print();
+    gates::print();
     smallest::print();
     random::print();
 }
 
-/// A bank with an index of its own, and the width of the index and of the search.
+/// A bank with an index of its own, and the width of the search.
 pub struct Setting {
     pub atoms: Vec<AtomView>,
     pub rows: Vec<Row>,
@@ -32,9 +36,15 @@ pub struct Setting {
 }
 
 impl Setting {
+    /// With the index at the search's width.
     pub fn new(atoms: Vec<AtomView>, limit: usize, width: u32) -> Self {
+        Self::with_index(atoms, limit, width, width)
+    }
+
+    /// With an index of another width than the search's.
+    pub fn with_index(atoms: Vec<AtomView>, limit: usize, index_width: u32, width: u32) -> Self {
         let rows: Vec<Row> = atoms.iter().map(|atom| atom.row).collect();
-        let index = access::index(&rows, width, limit);
+        let index = indexes::index(&rows, index_width, limit);
         Self {
             atoms,
             rows,

@@ -5,35 +5,86 @@
 //! have an answer; where nothing fits, the Rust finds nothing either.
 
 use std::collections::HashSet;
+use std::fmt;
+use std::ops::RangeInclusive;
 
-use crate::access::{self, AtomView, Row};
+use crate::access::{self, Row};
 
 use super::{repeated_points, Setting, PAIRS_MAX};
 use crate::inputs::one_variable;
 use crate::spec::product::{self, Answer};
 
 pub fn print() {
-    for (bank_width, width) in [(2, 1), (3, 1), (3, 2)] {
+    print_d1();
+    print_d2();
+}
+
+/// A bank's width, that of its index and that of the search. D1 wants a search at a lesser width than the index has.
+#[derive(Clone, Copy)]
+struct Widths {
+    bank: u32,
+    index: u32,
+    search: u32,
+}
+
+impl Widths {
+    /// All of these banks and indexes with every lesser width of the search.
+    fn all(banks: RangeInclusive<u32>, indexes: RangeInclusive<u32>) -> Vec<Self> {
+        let both = banks.flat_map(|bank| indexes.clone().map(move |index| (bank, index)));
+        let lesser = |(bank, index)| {
+            (1..index).map(move |search| Widths {
+                bank,
+                index,
+                search,
+            })
+        };
+        both.flat_map(lesser).collect()
+    }
+}
+
+impl fmt::Display for Widths {
+    fn fmt(&self, f: &mut fmt::Formatter<'_>) -> fmt::Result {
+        let Widths {
+            bank,
+            index,
+            search,
+        } = self;
+        write!(
+            f,
+            "bank of width {bank}, index of {index}, search at {search}"
+        )
+    }
+}
+
+/// Of one variable: all points at small widths, where words of banks up to width 2 make no others in indexes beyond width 4; then all
+/// points equal.
+fn print_d1() {
+    let small = Widths::all(1..=2, 2..=4);
+    for widths in small.into_iter().chain(Widths::all(3..=3, 2..=3)) {
         let mut space = Space::of_d1(format!(
-            "one variable, bank of width {bank_width}, search at {width}, every set of points, every first one, every seeding"
+            "one variable, {widths}, every set of points, every first one, every seeding"
         ));
-        for points in sets_with_first(1 << bank_width) {
-            space.product_loops(bank_width, width, &points, &pairs_of_seeds(bank_width));
+        for points in sets_with_first(1 << widths.bank) {
+            space.product_loops(widths, &points, &pairs_of_seeds(widths.bank));
         }
         space.print();
     }
-    for bank_width in 3..=6 {
-        for width in 1..bank_width {
-            let mut space = Space::of_d1(format!(
-                "one variable, bank of width {bank_width}, search at {width}, all points equal, at most one word seeded"
-            ));
-            for point in 0..1 << bank_width {
-                space.product_loops(bank_width, width, &[point], &single_seeds(bank_width));
+    for bank in 3..=5 {
+        let mut space = Space::of_d1(format!(
+            "one variable, bank of width {bank}, indexes of widths 3 to 6, search at every lesser width, all points equal, at most one \
+             word seeded"
+        ));
+        for widths in Widths::all(bank..=bank, 3..=6) {
+            for point in 0..1 << bank {
+                space.product_loops(widths, &[point], &single_seeds(bank));
             }
-            space.print();
         }
+        space.print();
     }
     print_six_atoms();
+}
+
+fn print_d2() {
     for (num_vars, width) in [(1, 1), (1, 2), (1, 3), (2, 1), (3, 1)] {
         let mut space = Space::of_d2(format!(
             "variables {num_vars}, width {width}, every set of points, zero bank target"
@@ -45,14 +96,15 @@ pub fn print() {
     }
 }
 
-/// The bank of six atoms that all points equal 0, 1 or 2^w - 1 give: the fewest atoms from width 3 up.
+/// The bank of six atoms that all points equal 0, 1 or 2^w - 1 give, the fewest from width 3 up; its index of the same width.
 fn print_six_atoms() {
-    let mut space =
-        Space::of_d1("the bank of six atoms at widths 3 to 64, every lesser width".to_string());
-    for bank_width in 3..=64 {
-        for point in [0, 1, u64::MAX >> (64 - bank_width)] {
-            for width in 1..bank_width {
-                space.product_loops(bank_width, width, &[point], &[[0; 16]]);
+    let name =
+        "the bank of six atoms and its index at widths 3 to 64, search at every lesser width";
+    let mut space = Space::of_d1(name.to_string());
+    for bank in 3..=64 {
+        for widths in Widths::all(bank..=bank, bank..=bank) {
+            for point in [0, 1, u64::MAX >> (64 - bank)] {
+                space.product_loops(widths, &[point], &[[0; 16]]);
             }
         }
     }
@@ -89,19 +141,26 @@ impl Space {
     }
 
     /// The product loop over every bank of these points and bank targets, for every row that has an answer.
-    fn product_loops(&mut self, bank_width: u32, width: u32, points: &[u64], bank_targets: &[Row]) {
+    fn product_loops(&mut self, widths: Widths, points: &[u64], bank_targets: &[Row]) {
         let mut seen: HashSet<Vec<Row>> = HashSet::new();
         for &bank_target in bank_targets {
-            let atoms = access::bank(1, bank_width, &one_variable(points), bank_target);
+            let atoms = access::bank(1, widths.bank, &one_variable(points), bank_target);
             if seen.insert(atoms.iter().map(|atom| atom.row).collect()) {
-                self.product_loop(points, bank_target, atoms, width);
+                let setting = Setting::with_index(atoms, PAIRS_MAX, widths.index, widths.search);
+                self.product_loop(widths, points, bank_target, &setting);
             }
         }
     }
 
-    fn product_loop(&mut self, points: &[u64], bank_target: Row, atoms: Vec<AtomView>, width: u32) {
+    fn product_loop(
+        &mut self,
+        widths: Widths,
+        points: &[u64],
+        bank_target: Row,
+        setting: &Setting,
+    ) {
         self.settings += 1;
-        let setting = Setting::new(atoms, PAIRS_MAX, width);
+        let width = widths.search;
         let answers = sorted_answers(&setting.rows, &setting.index.rows, width);
         let with_pair: Vec<(Row, (usize, usize))> = answers
             .into_iter()
@@ -111,8 +170,7 @@ impl Space {
             })
             .collect();
         let targets: Vec<Row> = with_pair.iter().map(|found| found.0).collect();
-        let found =
-            access::product_loops(&targets, &setting.rows, &setting.index.rows, setting.width);
+        let found = access::product_loops(&targets, &setting.rows, &setting.index.rows, width);
         for ((target, expected), found) in with_pair.into_iter().zip(found) {
             if found == Some(expected) {
                 continue;
@@ -121,11 +179,11 @@ impl Space {
             assert!(setting.index.rows[expected.1][0] >> width != 0);
             let shown = points.len();
             let text = format!(
-                "points {points:?}, bank target {:?}, target {:?}: {expected:?}, Rust {found:?}",
+                "{widths}, points {points:?}, bank target {:?}, target {:?}: {expected:?}, Rust {found:?}",
                 &bank_target[..2],
                 &target[..shown]
             );
-            self.note(&setting, text, found.is_none());
+            self.note(setting, text, found.is_none());
         }
     }
 
