@@ -1,22 +1,30 @@
-//! Indexes: pairs, rows, order list and the mark "cut", with limits around the Rust's own number of pairs.
+//! Indexes: pairs, rows, order list and the mark "cut", with limits around the number of all pairs. Over banks below 2^w they stand beside
+//! the Rust's, over others, where the Rust's gates leave high bits in place, beside the plain statement's.
 
-use oracle::access::{self, AtomView, IndexView, Row};
+use oracle::access::{AtomView, IndexView, Row};
 use oracle::inputs::Inputs;
+use oracle::made::indexes;
+use oracle::made::rows::{few_rows, raised};
+use oracle::spec::gates::are_reduced;
 use oracle::spec::index as spec;
 use simjaldek::lent::{self, Atoms, Built};
 use simjaldek::{ATOMS_MAX, PAIRS_MAX};
 
+use crate::any_width;
 use crate::buffers::{extra, flat, IndexBuffers};
 use crate::report::{Kind, Report};
 use crate::residuals;
-use crate::searches::Lent;
+use crate::searches::{atom_of, Lent};
 
 /// The listing program's largest limit.
 const SMALL_LIMIT: usize = 500;
 /// Indexes of more pairs are asked for with fewer limits.
 const MANY_PAIRS: usize = 4000;
 
-/// A bank with the Rust's whole index, and the width of the index.
+/// The most atoms of a bank that no build made.
+const MADE_ATOMS: usize = 7;
+
+/// A bank with its whole index, and the width of the index.
 pub struct Setting {
     atoms: Vec<AtomView>,
     rows: Vec<Row>,
@@ -27,12 +35,36 @@ pub struct Setting {
 impl Setting {
     pub fn new(atoms: Vec<AtomView>, width: u32) -> Self {
         let rows: Vec<Row> = atoms.iter().map(|atom| atom.row).collect();
-        let index = access::index(&rows, width, PAIRS_MAX);
+        let index = indexes::index(&rows, width, PAIRS_MAX);
         Self {
             atoms,
             rows,
             index,
             width,
+        }
+    }
+
+    /// Over a few rows that no build made; every other time with words from 2^width up, or with any words.
+    pub fn made(inputs: &mut Inputs) -> Self {
+        let width = any_width(inputs);
+        let mut rows = few_rows(inputs, width);
+        rows.truncate(inputs.below(MADE_ATOMS as u64 + 1) as usize);
+        match inputs.below(4) {
+            0 => rows.iter_mut().for_each(|row| *row = inputs.row(64)),
+            1 => rows
+                .iter_mut()
+                .step_by(2)
+                .for_each(|row| *row = raised(inputs, *row, width)),
+            _ => {}
+        }
+        Self::new(rows.into_iter().map(atom_of).collect(), width)
+    }
+
+    /// A width for a search: mostly that of the index, else a lesser one, so that pairs may have words that reach it.
+    pub fn search_width(&self, inputs: &mut Inputs) -> u32 {
+        match inputs.below(4) {
+            0 => 1 + inputs.below(u64::from(self.width)) as u32,
+            _ => self.width,
         }
     }
 
@@ -88,16 +120,21 @@ impl Setting {
         report.reach("indexes that are cut", cut);
         report.reach("indexes of 262,144 pairs", count == PAIRS_MAX);
         let input = (self.width, limit, &self.rows);
-        report.compare(Kind::Index, &input, &(built, buffers), &theirs);
+        let kind = if are_reduced(&self.rows, self.width) {
+            Kind::Index
+        } else {
+            Kind::PlainIndex
+        };
+        report.compare(kind, &input, &(built, buffers), &theirs);
     }
 
-    /// The Rust's order list, slots from `count` upward left out.
+    /// The order list, slots from `count` upward left out.
     fn order(&self, count: usize) -> Vec<u32> {
         let order = self.index.order.iter().filter(|&&slot| slot < count);
         order.map(|&slot| slot as u32).collect()
     }
 
-    /// Whether the Rust lists more than the limit. Where it lists as many as it can, only the plain statement tells.
+    /// Whether there are more pairs than the limit. Where the Rust lists as many as it can, only the plain statement tells.
     fn is_cut(&self, limit: usize) -> bool {
         if limit == PAIRS_MAX && self.index.all == PAIRS_MAX {
             return spec::index(&self.rows, self.width, limit).cut;
@@ -105,24 +142,24 @@ impl Setting {
         self.index.all > limit
     }
 
-    /// The bank with the first pairs of the index.
-    pub fn lent(&self, limit: usize) -> Lent {
+    /// The bank with the first pairs of the index, for searches at a width.
+    pub fn lent(&self, limit: usize, width: u32) -> Lent {
         let count = limit.min(self.index.all);
         Lent {
             atoms: self.atoms.clone(),
             pairs: self.index.rows[..count].to_vec(),
-            width: self.width,
+            width,
         }
     }
 
     /// The same for residual searches.
-    pub fn lent_rows(&self, limit: usize) -> residuals::Lent {
+    pub fn lent_rows(&self, limit: usize, width: u32) -> residuals::Lent {
         let count = limit.min(self.index.all);
         residuals::Lent {
             atoms: self.rows.clone(),
             pairs: self.index.rows[..count].to_vec(),
-            width: self.width,
-            whole: !self.is_cut(limit),
+            width,
+            whole: width == self.width && !self.is_cut(limit),
         }
     }
 }

@@ -1,12 +1,14 @@
 //! Differential runs: the originals of binsnake/cobra (`oracle`) and Simjaldek through its binding (`simjaldek`) get the same random
 //! inputs, and every result is compared. Refusals, which the originals don't have, are compared with the plain statement of the
-//! specification's table. Only the differences D1 and D2 of docs/DIFFERENCES.md may appear; `searches` recognises them by rule.
+//! specification's table. Only the differences D1 and D2 of docs/DIFFERENCES.md may appear; `searches` recognises them by rule. D3 can't:
+//! where gates get words from 2^w up, results are compared with the plain statement in place of the originals.
 //!
 //! A run is rounds 0, 1, 2 and so on until there are as many comparisons as asked for. A round's inputs come from the seed and the
 //! round's number alone, so that a difference can be run again by both.
 
 mod banks;
 mod buffers;
+pub mod differences;
 mod formulas;
 mod indexes;
 mod listings;
@@ -86,11 +88,11 @@ pub fn round(seed: u64, number: u64, report: &mut Report) {
     let atoms = banks::compare(inputs, report, &input);
     banks::compare_rows(inputs, report, &atoms, width);
     let setting = Setting::new(atoms, other_width(inputs, width));
-    let limit = setting.compare(inputs, report);
-    searches::compare(inputs, report, &setting.lent(limit));
+    compare_setting(inputs, report, &setting);
+    let setting = Setting::made(inputs);
+    compare_setting(inputs, report, &setting);
     let made = searches::made(inputs);
     searches::compare(inputs, report, &made);
-    residuals::compare(inputs, report, &setting.lent_rows(limit));
     residuals::compare_made(inputs, report);
     formulas::compare(inputs, report, &input.points, width);
     loads::compare(inputs, report);
@@ -100,6 +102,14 @@ pub fn round(seed: u64, number: u64, report: &mut Report) {
     words::compare(inputs, report);
     listings::compare(inputs, report);
     refused::compare(inputs, report);
+}
+
+/// A bank's indexes, and searches over the bank with one of them.
+fn compare_setting(inputs: &mut Inputs, report: &mut Report, setting: &Setting) {
+    let limit = setting.compare(inputs, report);
+    let width = setting.search_width(inputs);
+    searches::compare(inputs, report, &setting.lent(limit, width));
+    residuals::compare(inputs, report, &setting.lent_rows(limit, width));
 }
 
 /// One round of residual searches: over a built bank, every other time at a lesser width, with an index of two limits, and over lent
@@ -112,7 +122,8 @@ pub fn residual_round(seed: u64, number: u64, report: &mut Report) {
     let setting = Setting::new(input.bank(), width);
     for _ in 0..2 {
         let limit = setting.limit(inputs);
-        residuals::compare(inputs, report, &setting.lent_rows(limit));
+        let width = setting.search_width(inputs);
+        residuals::compare(inputs, report, &setting.lent_rows(limit, width));
     }
     for _ in 0..RESIDUAL_BANKS {
         residuals::compare_made(inputs, report);
@@ -153,11 +164,11 @@ fn any_width(inputs: &mut Inputs) -> u32 {
     1 + inputs.below(most) as u32
 }
 
-/// The width of index and search: mostly the bank's.
+/// The width of an index: mostly the bank's.
 fn other_width(inputs: &mut Inputs, width: u32) -> u32 {
     match inputs.below(8) {
-        0 => 1 + inputs.below(u64::from(width)) as u32,
-        1 => any_width(inputs),
+        0 | 1 => 1 + inputs.below(u64::from(width)) as u32,
+        2 => any_width(inputs),
         _ => width,
     }
 }

@@ -15,17 +15,19 @@ pub enum Kind {
     Bank,
     FindRow,
     AtomRow,
-    /// Count, mark "cut" and three arrays of an index, places beyond the count too.
+    /// Count, mark "cut" and three arrays of an index, places beyond the count too; over words below 2^w.
     Index,
+    /// The same over other words, against the plain statement.
+    PlainIndex,
     /// Used or not, the list, and its places beyond the count.
     Candidates,
     /// Whether two atoms fit.
     TwoAtoms,
     /// The search's answer where no two atoms fit.
     ProductLoop,
-    /// The residual search's answer, against the originals' loop.
+    /// The residual search's answer over words below 2^w, against the originals' loop.
     ResidualSearch,
-    /// The same against the plain statement, where that is short.
+    /// The same against the plain statement, where that is short; over other words always.
     ResidualTrials,
     /// Whether something is found, and gives the target, against all atoms a, b, c and gates; where the index is whole.
     ResidualNothing,
@@ -51,9 +53,14 @@ pub enum Kind {
     Inverse,
     /// The listing's text of the Rust's bank and index, and of what the table refuses.
     Listing,
+    /// A gate on rows, a residual, a match: of words below 2^w.
     Gate,
     Residual,
     Match,
+    /// The same of any words, against the plain statement.
+    PlainGate,
+    PlainResidual,
+    PlainMatch,
     /// Refusals of a call, and that a refused call leaves its buffers alone.
     RefusedBank,
     RefusedIndex,
@@ -73,11 +80,12 @@ pub enum Kind {
 
 impl Kind {
     /// Every kind, in order.
-    pub const ALL: [Kind; 42] = [
+    pub const ALL: [Kind; 46] = [
         Kind::Bank,
         Kind::FindRow,
         Kind::AtomRow,
         Kind::Index,
+        Kind::PlainIndex,
         Kind::Candidates,
         Kind::TwoAtoms,
         Kind::ProductLoop,
@@ -102,6 +110,9 @@ impl Kind {
         Kind::Gate,
         Kind::Residual,
         Kind::Match,
+        Kind::PlainGate,
+        Kind::PlainResidual,
+        Kind::PlainMatch,
         Kind::RefusedBank,
         Kind::RefusedIndex,
         Kind::RefusedCandidates,

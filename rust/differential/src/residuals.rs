@@ -1,9 +1,12 @@
-//! The residual search: beside the originals' loop over `gate_residual` and their maps; where that is short, beside trying
-//! everything; and where the index is whole, beside trying all atoms a, b, c and gates without an index.
+//! The residual search. Over rows below 2^w: beside the originals' loop over `gate_residual` and their maps; where that is short, beside
+//! trying everything; and where the index is whole, beside trying all atoms a, b, c and gates without an index. Over other rows, where
+//! the originals' residual leaves high bits in place: beside trying everything alone.
 
 use oracle::access::{self, Completion, Part, Row};
 use oracle::inputs::Inputs;
-use oracle::made::rows::{few_rows, few_words, late_one_of, near, near_one_of};
+use oracle::made::indexes;
+use oracle::made::rows::{few_rows, few_words, late_one_of, near, near_one_of, raised};
+use oracle::spec::gates::{are_reduced, gate_row, gives};
 use oracle::spec::residual as spec;
 use simjaldek::lent::{self, Atoms, PairRows};
 use simjaldek::{AtomSlot, Completion as Ours, PairSlot, Refusal, ATOMS_MAX, PAIRS_MAX};
@@ -24,8 +27,8 @@ const GIVEN_ATOMS: usize = 18;
 const MADE_ATOMS: u64 = 12;
 const MADE_PAIRS: u64 = 30;
 const OWN_ATOMS: u64 = 7;
-/// How often two rows are drawn whose xor is to be below 2^w.
-const DRAWS: usize = 8;
+/// How often two rows are drawn of which the second is to be below 2^w.
+const DRAWS: usize = 4;
 
 /// A bank and an index as they are lent, and the width of the search.
 pub struct Lent {
@@ -63,8 +66,7 @@ pub fn compare_made(inputs: &mut Inputs, report: &mut Report) {
 /// Atoms and pairs out of a few rows, so that rows repeat and hits are common everywhere; here and there words beyond the width.
 fn made(inputs: &mut Inputs) -> Lent {
     let width = small_width(inputs);
-    let beyond = inputs.one_of(&[0, 0, 1, 2]);
-    let rows = few_rows(inputs, (width + beyond).min(64));
+    let rows = raw_rows(inputs, width);
     let mut draw =
         |count: u64| -> Vec<Row> { (0..count).map(|_| near_one_of(inputs, &rows)).collect() };
     let [atoms, pairs] = [draw(MADE_ATOMS), draw(MADE_PAIRS)];
@@ -84,13 +86,25 @@ fn made(inputs: &mut Inputs) -> Lent {
     lent
 }
 
-/// A few atoms below 2^w with an index of their own, seldom cut.
+/// A few rows: below 2^w, of one or two bits more, or some of them with other bits from 2^w up.
+fn raw_rows(inputs: &mut Inputs, width: u32) -> Vec<Row> {
+    let beyond = inputs.one_of(&[0, 0, 1, 2]);
+    let mut rows = few_rows(inputs, (width + beyond).min(64));
+    if inputs.below(8) == 0 {
+        for row in rows.iter_mut().step_by(2) {
+            *row = raised(inputs, *row, width);
+        }
+    }
+    rows
+}
+
+/// A few atoms, half of the time below 2^w, with an index of their own, seldom cut.
 fn own(inputs: &mut Inputs) -> Lent {
     let width = small_width(inputs);
-    let rows = few_rows(inputs, width);
+    let rows = raw_rows(inputs, width);
     let count = inputs.below(OWN_ATOMS + 1);
     let atoms: Vec<Row> = (0..count).map(|_| inputs.one_of(&rows)).collect();
-    let mut pairs = access::index(&atoms, width, PAIRS_MAX).rows;
+    let mut pairs = indexes::index(&atoms, width, PAIRS_MAX).rows;
     let all = pairs.len();
     if inputs.below(4) == 0 {
         pairs.truncate(inputs.below(all as u64 + 1) as usize);
@@ -119,13 +133,9 @@ pub fn compare(inputs: &mut Inputs, report: &mut Report, lent: &Lent) {
         TURNS
     };
     let targets: Vec<Row> = (0..turns).map(|_| lent.target(inputs)).collect();
-    let found = access::completions(&targets, &lent.atoms, &lent.pairs, lent.width);
+    let expected = lent.answers(&targets);
     let (atoms, pairs) = (flat(inputs, &lent.atoms), flat(inputs, &lent.pairs));
-    report.reach(
-        "residual searches: banks with words from 2^w",
-        !lent.is_reduced(),
-    );
-    for (target, found) in targets.into_iter().zip(found) {
+    for (target, expected) in targets.into_iter().zip(expected) {
         let atoms = Atoms {
             count: lent.atoms.len(),
             rows: &atoms,
@@ -135,27 +145,45 @@ pub fn compare(inputs: &mut Inputs, report: &mut Report, lent: &Lent) {
             rows: &pairs,
         };
         let ours = ask(lent.width, atoms, pairs, &longer(inputs, &target));
-        lent.compare(report, &target, ours, found);
-        lent.reach(report, found);
+        lent.compare(report, &target, ours, expected);
+        lent.reach(report, expected);
     }
 }
 
 impl Lent {
-    /// Compares our answer with the originals', with that of trying everything, and with what the atoms give.
+    /// The originals' answers over rows below 2^w, those of trying everything over others.
+    fn answers(&self, targets: &[Row]) -> Vec<Option<Completion>> {
+        if self.is_reduced() {
+            return access::completions(targets, &self.atoms, &self.pairs, self.width);
+        }
+        let answer = |target| self.try_everything(target);
+        targets.iter().map(answer).collect()
+    }
+
+    fn try_everything(&self, target: &Row) -> Option<Completion> {
+        spec::try_everything(target, &self.atoms, &self.pairs, self.width)
+    }
+
+    /// Compares our answer with the expected one. Over rows below 2^w that is the originals', and trying everything and what the atoms
+    /// give stand beside it.
     fn compare(
         &self,
         report: &mut Report,
         target: &Row,
         ours: Result<Option<Completion>, Refusal>,
-        rust: Option<Completion>,
+        expected: Option<Completion>,
     ) {
         let input = (self.width, &self.atoms, &self.pairs, target);
-        report.compare(Kind::ResidualSearch, &input, &ours, &Ok(rust));
-        if self.trials() <= TRIALS {
-            let expected = spec::try_everything(target, &self.atoms, &self.pairs, self.width);
+        if !self.is_reduced() {
             report.compare(Kind::ResidualTrials, &input, &ours, &Ok(expected));
+            return;
         }
-        if self.whole && self.is_reduced() && self.atoms.len() <= GIVEN_ATOMS {
+        report.compare(Kind::ResidualSearch, &input, &ours, &Ok(expected));
+        if self.trials() <= TRIALS {
+            let tried = self.try_everything(target);
+            report.compare(Kind::ResidualTrials, &input, &ours, &Ok(tried));
+        }
+        if self.whole && self.atoms.len() <= GIVEN_ATOMS {
             let given = spec::is_given(target, &self.atoms, self.width);
             let shown = ours.map(|found| found.map(|shown| self.completes(shown, target)));
             let expected = Ok(given.then_some(true));
@@ -180,7 +208,7 @@ impl Lent {
         }
     }
 
-    /// Of an atom with another, or with a pair if there are any.
+    /// Of an atom with another, or with a pair if there are any: with one below 2^w, which alone can be found, if such are drawn.
     fn sum(&self, inputs: &mut Inputs, two_atoms: bool) -> Row {
         let gate = inputs.one_of(&spec::OUTER_GATES);
         let others = if two_atoms || self.pairs.is_empty() {
@@ -188,27 +216,15 @@ impl Lent {
         } else {
             &self.pairs
         };
-        let mut drawn = || {
-            (
-                late_one_of(inputs, &self.atoms),
-                late_one_of(inputs, others),
-            )
-        };
-        let is_below =
-            |&(a, b): &(Row, Row)| !reaches(&access::gate_apply(a, b, gate, 64), self.width);
-        let first = drawn();
-        let mut draws = (0..DRAWS).map(|_| drawn());
-        let (a, b) = if gate == spec::OUTER_GATES[0] && !is_below(&first) {
-            draws.find(is_below).unwrap_or(first)
-        } else {
-            first
-        };
-        spec::reduced_gate(&a, &b, gate, self.width)
+        let a = late_one_of(inputs, &self.atoms);
+        let draws = [(); DRAWS].map(|()| late_one_of(inputs, others));
+        let below = draws.iter().find(|row| are_reduced(&[**row], self.width));
+        gate_row(&a, below.unwrap_or(&draws[0]), gate, self.width)
     }
 
-    /// Whether the atoms' words are below 2^w.
+    /// Whether all words of atoms and pairs are below 2^w.
     fn is_reduced(&self) -> bool {
-        !self.atoms.iter().any(|row| reaches(row, self.width))
+        are_reduced(&self.atoms, self.width) && are_reduced(&self.pairs, self.width)
     }
 
     /// The rows that are looked through where nothing is found, under one gate.
@@ -223,11 +239,15 @@ impl Lent {
     /// Whether what is shown gives the target.
     fn completes(&self, shown: Completion, target: &Row) -> bool {
         let (a, other) = (&self.atoms[shown.atom], self.row(shown.other));
-        spec::gives(a, other, shown.gate, target, self.width)
+        gives(a, other, target, shown.gate, self.width)
     }
 
     /// Counts an answer by its gate and its part, and what else it shows.
     fn reach(&self, report: &mut Report, found: Option<Completion>) {
+        let raw = !self.is_reduced();
+        report.reach("residual searches: rows with words from 2^w", raw);
+        let found_there = raw && found.is_some();
+        report.reach("residual searches: found with words from 2^w", found_there);
         let kind = found.map(|found| (found.gate, matches!(found.other, Part::Pair(_))));
         for (name, counted) in ANSWERS {
             report.reach(name, kind == counted);
@@ -257,8 +277,3 @@ const ANSWERS: [(&str, Option<(usize, bool)>); 5] = [
     ("residual searches: Add, two atoms", Some((3, false))),
     ("residual searches: Add, atom and pair", Some((3, true))),
 ];
-
-/// Whether a word of the row is not below 2^width.
-fn reaches(row: &Row, width: u32) -> bool {
-    row.iter().any(|&word| u128::from(word) >> width != 0)
-}

@@ -45,7 +45,7 @@ pub fn made(inputs: &mut Inputs) -> Lent {
 }
 
 /// An atom with a formula that isn't the row's own, as the row has none: it only weighs in the Rust's choice of two atoms.
-fn atom_of(row: Row) -> AtomView {
+pub fn atom_of(row: Row) -> AtomView {
     let mut formula = Formula::default();
     formula.push(0, 0);
     AtomView {

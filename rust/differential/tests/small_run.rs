@@ -6,6 +6,7 @@ use differential::{run, run_loads, run_residuals};
 const COUNT: u64 = 600;
 const RESIDUALS: u64 = 4000;
 const DRAWN: u64 = 2000;
+const RAW: u64 = 2000;
 
 #[test]
 fn no_other_difference() {
@@ -24,10 +25,28 @@ fn every_residual_answer() {
     assert_eq!(report.others(), 0, "{report}");
     let text = report.to_string();
     let counts = text.lines().filter(|line| line.starts_with("residual"));
-    assert_eq!(counts.clone().count(), 10, "{report}");
+    assert_eq!(counts.clone().count(), 11, "{report}");
     for count in counts {
         assert!(!count.ends_with(": 0"), "{count}");
     }
+}
+
+/// A run meets gates on words from 2^w up, in one row and in both, and targets that match and that don't; and D1, over lent indexes.
+#[test]
+fn words_that_reach_the_width() {
+    let report = run(2, RAW);
+    assert_eq!(report.others(), 0, "{report}");
+    let text = report.to_string();
+    let counts = text.lines().filter(|line| line.contains("words from 2^w"));
+    assert_eq!(counts.clone().count(), 6, "{report}");
+    for count in counts {
+        assert!(!count.ends_with(": 0"), "{count}");
+    }
+    let known = |kind: &str| {
+        let line = text.lines().find(|line| line.starts_with(kind));
+        line.is_some_and(|line| line.split_whitespace().nth(2) != Some("0"))
+    };
+    assert!(known("Candidates") && known("ProductLoop"), "{report}");
 }
 
 /// A run of loads meets formulas of the greatest length.
