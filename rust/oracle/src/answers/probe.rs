@@ -4,6 +4,8 @@ use crate::access::{self, Row};
 
 use crate::answers::data_file::DataFile;
 use crate::inputs::Inputs;
+use crate::made::banks::largest;
+use crate::spec::gates::{are_reduced, gate_row, gives, residual_row};
 use crate::spec::refusals::{NONE, REFUSED_VARS, REFUSED_WIDTH};
 
 const SPLITMIX: u64 = 1;
@@ -32,15 +34,19 @@ const SPLITMIX_STEP: u64 = 0x9E37_79B9_7F4A_7C15;
 
 const POINT_WIDTHS: [u32; 12] = [1, 2, 3, 7, 8, 16, 31, 32, 33, 48, 63, 64];
 const GATE_WIDTHS: [u32; 8] = [1, 2, 7, 8, 32, 33, 63, 64];
+/// Widths at which words that reach 2^width stand beside others; at 64 none does.
+const RAW_WIDTHS: [u32; 4] = [1, 8, 63, 64];
 const REFUSED_WIDTHS: [u32; 3] = [0, 65, u32::MAX];
 const INVERSE_WIDTHS: [u32; 10] = [1, 2, 3, 8, 16, 31, 32, 33, 63, 64];
 
 /// Places of a row at which a target is made to differ.
 const CHANGED_PLACES: [usize; 4] = [0, 1, 7, 15];
 
-const HEAD: [&str; 12] = [
+const HEAD: [&str; 16] = [
     "Gates: 0 And, 1 Or, 2 Xor, 3 Add, 4 Mul. REFUSAL 0: answered. Any other REFUSAL is the specification's (its least",
-    "number that applies) and was not asked of the Rust; the answer beside it is zeros.",
+    "number that applies) and was not asked of the Rust; the answer beside it is zeros. In kinds 4, 5 and 6 the answer is the",
+    "Rust's where all words are below 2^W; for others it is that of 02, 2.3, where every gate and the inverse of Xor reduce",
+    "(docs/DIFFERENCES.md, D3).",
     "  1 STATE NEXT WORD              one step of splitmix64: from STATE the next state and the word",
     "  2 NV W REFUSAL P..             make_probe_points(NV, W): 16 points of 6 words, zeros past NV",
     "  3 A.. F                        fingerprint of the row A (16 words)",
@@ -50,7 +56,9 @@ const HEAD: [&str; 12] = [
     "  7 W MASK                       bitmask(W)",
     "  8 M K R                        mod_inverse_odd(M, K) = R, of the stand-in that the specification defines",
     "The first five lines of kind 1 are not the Rust's answers but splitmix64's published words from seed 1234567 (the",
-    "Rust gives the same, or this file would not have been made).",
+    "Rust gives the same, or this file would not have been made). The last lines of kinds 4, 5 and 6 have, at widths 1, 8, 63",
+    "and 64, places where a word reaches 2^W in neither row, in the first, in the second, in both; at width 8 the target of",
+    "kind 6 keeps the high bits, so that it is no match.",
 ];
 
 /// The whole file.
@@ -65,8 +73,8 @@ pub fn data_file() -> Vec<u8> {
     points(&mut file);
     refused_points(&mut file);
     fingerprints(&mut file);
-    applied_gates(&mut file);
-    residuals(&mut file);
+    APPLIED.lines(&mut file);
+    COMPLETING.lines(&mut file);
     matches(&mut file);
     bitmasks(&mut file);
     inverses(&mut file);
@@ -169,31 +177,75 @@ fn with_bit_turned(mut row: Row, place: usize, bit: u32) -> Row {
     row
 }
 
-fn applied_gates(file: &mut DataFile) {
-    gates_on_rows(file, APPLY, access::gate_apply);
+/// A call that takes two rows and gives one, by the specification and by the Rust.
+struct OnRows {
+    kind: u64,
+    stated: fn(&Row, &Row, usize, u32) -> Row,
+    rust: fn(Row, Row, usize, u32) -> Row,
 }
 
-fn residuals(file: &mut DataFile) {
-    gates_on_rows(file, RESIDUAL, access::gate_residual);
-}
+impl OnRows {
+    /// The specification's answer, which must be the Rust's where all words are below 2^width.
+    fn answer(&self, first: Row, second: Row, gate: usize, width: u32) -> Row {
+        let answer = (self.stated)(&first, &second, gate, width);
+        if are_reduced(&[first, second], width) {
+            assert_eq!((self.rust)(first, second, gate, width), answer);
+        }
+        answer
+    }
 
-/// Lines of the kinds that take two rows and give one.
-fn gates_on_rows(file: &mut DataFile, kind: u64, answer: fn(Row, Row, usize, u32) -> Row) {
-    let mut inputs = Inputs::of_kind(kind);
-    for gate in 0..GATES {
-        for width in GATE_WIDTHS {
-            for (first, second) in row_pairs(&mut inputs, width) {
-                let result = answer(first, second, gate, width);
-                let head = gate_head(gate, width, NONE);
-                file.line(kind, &[&head, &first, &second, &result]);
+    fn line(&self, file: &mut DataFile, gate: usize, width: u32, (first, second): (Row, Row)) {
+        let result = self.answer(first, second, gate, width);
+        let head = gate_head(gate, width, NONE);
+        file.line(self.kind, &[&head, &first, &second, &result]);
+    }
+
+    fn lines(&self, file: &mut DataFile) {
+        let mut inputs = Inputs::of_kind(self.kind);
+        for gate in 0..GATES {
+            for width in GATE_WIDTHS {
+                for rows in row_pairs(&mut inputs, width) {
+                    self.line(file, gate, width, rows);
+                }
+            }
+            for width in REFUSED_WIDTHS {
+                let (first, second) = (inputs.row(8), inputs.row(8));
+                let head = gate_head(gate, width, REFUSED_WIDTH);
+                file.line(self.kind, &[&head, &first, &second, &[0; 16]]);
             }
         }
-        for width in REFUSED_WIDTHS {
-            let (first, second) = (inputs.row(8), inputs.row(8));
-            let head = gate_head(gate, width, REFUSED_WIDTH);
-            file.line(kind, &[&head, &first, &second, &[0; 16]]);
+        for (gate, width) in raw_cases() {
+            let rows = raw_rows(&mut inputs, width);
+            self.line(file, gate, width, rows);
         }
     }
+}
+
+const APPLIED: OnRows = OnRows {
+    kind: APPLY,
+    stated: gate_row,
+    rust: access::gate_apply,
+};
+
+const COMPLETING: OnRows = OnRows {
+    kind: RESIDUAL,
+    stated: residual_row,
+    rust: access::gate_residual,
+};
+
+/// Every gate at every width that words may reach.
+fn raw_cases() -> impl Iterator<Item = (usize, u32)> {
+    (0..GATES).flat_map(|gate| RAW_WIDTHS.map(|width| (gate, width)))
+}
+
+/// Two rows with bits from 2^width up in every second word of the first and in every second two words of the other.
+fn raw_rows(inputs: &mut Inputs, width: u32) -> (Row, Row) {
+    let mut row = |is_raw: fn(usize) -> bool| -> Row {
+        let (low, any) = (inputs.row(width), inputs.row(64));
+        let high = |place: usize| any[place] & !largest(width);
+        std::array::from_fn(|place| low[place] | if is_raw(place) { high(place) } else { 0 })
+    };
+    (row(|place| place % 2 == 1), row(|place| place / 2 % 2 == 1))
 }
 
 fn gate_head(gate: usize, width: u32, refusal: u64) -> [u64; 3] {
@@ -229,12 +281,18 @@ fn matches(file: &mut DataFile) {
             refused_match(file, &mut inputs, gate, width);
         }
     }
+    for (gate, width) in raw_cases() {
+        let (a, b) = raw_rows(&mut inputs, width);
+        let kept = if width == 8 { 64 } else { width };
+        let target = gate_row(&a, &b, gate, kept);
+        match_line(file, gate, width, (a, b, target), kept == width);
+    }
 }
 
 /// Rows below 2^width with the target that their gate gives.
 fn true_target(file: &mut DataFile, inputs: &mut Inputs, gate: usize, width: u32) {
     let (a, b) = (inputs.row(width), inputs.row(width));
-    let target = access::gate_apply(a, b, gate, width);
+    let target = gate_row(&a, &b, gate, width);
     match_line(file, gate, width, (a, b, target), true);
 }
 
@@ -242,7 +300,7 @@ fn true_target(file: &mut DataFile, inputs: &mut Inputs, gate: usize, width: u32
 fn changed_targets(file: &mut DataFile, inputs: &mut Inputs, gate: usize, width: u32) {
     for place in CHANGED_PLACES {
         let (a, b) = (inputs.row(width), inputs.row(width));
-        let target = access::gate_apply(a, b, gate, width);
+        let target = gate_row(&a, &b, gate, width);
         let bit = (inputs.word() % u64::from(width)) as u32;
         let changed = with_bit_turned(target, place, bit);
         match_line(file, gate, width, (a, b, changed), false);
@@ -252,17 +310,20 @@ fn changed_targets(file: &mut DataFile, inputs: &mut Inputs, gate: usize, width:
 /// Rows of any words: with the target that their gate gives, then with one that is wrong only above the width.
 fn targets_of_any_words(file: &mut DataFile, inputs: &mut Inputs, gate: usize, width: u32) {
     let (a, b) = (inputs.row(64), inputs.row(64));
-    let target = access::gate_apply(a, b, gate, width);
+    let target = gate_row(&a, &b, gate, width);
     match_line(file, gate, width, (a, b, target), true);
     let place = CHANGED_PLACES[gate % CHANGED_PLACES.len()];
     let changed = with_bit_turned(target, place, 63);
     match_line(file, gate, width, (a, b, changed), false);
 }
 
-/// A line that the Rust answers, with `yes` as expected.
+/// A line with `yes` as expected; the Rust must say the same where all words are below 2^width.
 fn match_line(file: &mut DataFile, gate: usize, width: u32, rows: (Row, Row, Row), yes: bool) {
     let (a, b, target) = rows;
-    assert_eq!(access::gate_matches(a, b, target, gate, width), yes);
+    assert_eq!(gives(&a, &b, &target, gate, width), yes);
+    if are_reduced(&[a, b, target], width) {
+        assert_eq!(access::gate_matches(a, b, target, gate, width), yes);
+    }
     let head = gate_head(gate, width, NONE);
     file.line(MATCHES, &[&head, &[u64::from(yes)], &a, &b, &target]);
 }
@@ -270,7 +331,7 @@ fn match_line(file: &mut DataFile, gate: usize, width: u32, rows: (Row, Row, Row
 /// A refused width, with the target that the gate gives at width 64.
 fn refused_match(file: &mut DataFile, inputs: &mut Inputs, gate: usize, width: u32) {
     let (a, b) = (inputs.row(8), inputs.row(8));
-    let target = access::gate_apply(a, b, gate, 64);
+    let target = gate_row(&a, &b, gate, 64);
     let head = gate_head(gate, width, REFUSED_WIDTH);
     file.line(MATCHES, &[&head, &[0], &a, &b, &target]);
 }

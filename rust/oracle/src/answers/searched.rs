@@ -19,7 +19,7 @@ pub struct Searched {
 }
 
 impl Searched {
-    /// The Rust's bank and index must be the specification's.
+    /// The Rust's bank must be the specification's, and its index where the bank's words are below 2^width.
     pub fn new(bank: BankInput, width: u32, limit: usize) -> Self {
         assert!(limit <= LIMIT_MAX);
         let setting = Setting::new(bank.bank(), limit, width);

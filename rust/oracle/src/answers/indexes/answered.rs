@@ -1,4 +1,4 @@
-//! Lines of kind 13: the Rust's indexes, each held against the specification's.
+//! Lines of kind 13: indexes by the specification; where the bank's words are below 2^width the Rust's are the same.
 
 use crate::access::{self, Row};
 
@@ -7,6 +7,7 @@ use crate::answers::data_file::DataFile;
 use crate::digest::digest;
 use crate::inputs::{one_variable, repeated, Inputs};
 use crate::made::banks::{BankInput, Points, Target};
+use crate::made::indexes;
 use crate::spec::index as spec;
 use crate::spec::product::order_list;
 
@@ -59,10 +60,10 @@ pub fn lines(file: &mut DataFile) {
     }
 }
 
-/// One line. The Rust must say what the specification says.
+/// One line. The Rust must say what the specification says, unless a word of the bank reaches 2^width.
 fn line(file: &mut DataFile, input: &IndexInput, limit: usize) {
     assert!(limit <= LIMIT_MAX);
-    let index = access::index(&input.rows, input.width, limit);
+    let index = indexes::index(&input.rows, input.width, limit);
     let expected = spec::index(&input.rows, input.width, limit);
     let cut = index.all > limit;
     assert_eq!(
@@ -92,7 +93,7 @@ fn index_inputs() -> Vec<(IndexInput, Vec<usize>)> {
     all
 }
 
-/// The banks of P1, P2 and D1, with what is known of them.
+/// The banks of P1 and P2, and one whose words reach 2^width, with what is known of them.
 fn sheet() -> Vec<(IndexInput, Vec<usize>)> {
     let of_sheet = |width, words: &[u64], index_width, all| {
         let bank = BankInput {
@@ -112,7 +113,9 @@ fn sheet() -> Vec<(IndexInput, Vec<usize>)> {
     assert_eq!(first.pairs, [[0, 1, 6]]);
     assert_eq!(first.rows, [repeated(&[1, 0])]);
     let eight: Vec<u64> = (0..8).collect();
-    vec![p1, p3, of_sheet(3, &eight, 2, 216)]
+    let raw = of_sheet(3, &eight, 2, 47);
+    assert_eq!(access::index(&raw.0.rows, 2, LIMIT_MAX).all, 216);
+    vec![p1, p3, raw]
 }
 
 /// Banks that have at least a pair and at most 499 of them.

@@ -1,15 +1,16 @@
 //! Lines of kind 21: residual searches over built banks with indexes of their own.
 
-use crate::access::{self, Completion, Part, Row};
+use crate::access::{Completion, Part, Row};
 
-use super::{answer, numbers, BUILT};
+use super::{answer, answers, numbers, BUILT};
 use crate::answers::data_file::DataFile;
 use crate::answers::searched::{changed, p2, small_bank, Searched, LIMIT_MAX};
 use crate::differences::Setting;
 use crate::inputs::Inputs;
 use crate::made::banks::BankInput;
 use crate::made::rows::late_one_of;
-use crate::spec::residual::{reduced_gate, OUTER_GATES};
+use crate::spec::gates::gate_row;
+use crate::spec::residual::OUTER_GATES;
 
 /// Banks with a small index, for each variable count.
 const SMALL_BANKS: usize = 4;
@@ -50,9 +51,9 @@ fn sheet(file: &mut DataFile) {
         let last = rows[rows.len() - 1];
         let other = *index.rows.last().unwrap_or(&last);
         for gate in OUTER_GATES {
-            let row = reduced_gate(&rows[4], &other, gate, 2);
-            line(file, &searched, reduced_gate(&rows[5], &rows[5], gate, 2));
-            line(file, &searched, reduced_gate(&rows[5], &last, gate, 2));
+            let row = gate_row(&rows[4], &other, gate, 2);
+            line(file, &searched, gate_row(&rows[5], &rows[5], gate, 2));
+            line(file, &searched, gate_row(&rows[5], &last, gate, 2));
             line(file, &searched, row);
             line(file, &searched, changed(&row, 0, 2));
             line(file, &searched, changed(&row, 15, 1));
@@ -136,7 +137,7 @@ fn gate_of_two(inputs: &mut Inputs, setting: &Setting, gate: usize, pair: bool) 
     };
     let atom = late_one_of(inputs, &setting.rows);
     let other = late_one_of(inputs, others);
-    reduced_gate(&atom, &other, gate, setting.width)
+    gate_row(&atom, &other, gate, setting.width)
 }
 
 /// Of some rows the first with such an answer, or if there is none the first.
@@ -150,10 +151,10 @@ fn drawn(
     first.unwrap_or(&tries[0]).0
 }
 
-/// Rows with the Rust's answers.
+/// Rows with their answers.
 fn tries(setting: &Setting, mut draw: impl FnMut() -> Row) -> Vec<(Row, Option<Completion>)> {
     let rows: Vec<Row> = (0..DRAWS).map(|_| draw()).collect();
-    let found = access::completions(&rows, &setting.rows, &setting.index.rows, setting.width);
+    let found = answers(&rows, &setting.rows, &setting.index.rows, setting.width);
     rows.into_iter().zip(found).collect()
 }
 
@@ -186,7 +187,7 @@ fn last_pairs(file: &mut DataFile, inputs: &mut Inputs) {
         let last = whole.setting.index.rows.len() - 1;
         let gate = OUTER_GATES[count as usize % 2];
         let atom = late_one_of(inputs, &whole.setting.rows);
-        let row = reduced_gate(&atom, &whole.setting.index.rows[last], gate, width);
+        let row = gate_row(&atom, &whole.setting.index.rows[last], gate, width);
         let shown = found(&whole.setting, &row);
         if shown.is_some_and(|shown| shown.gate == gate && shown.other == Part::Pair(last)) {
             line(file, &whole, row);

@@ -8,7 +8,8 @@ use crate::answers::searched::changed;
 use crate::inputs::Inputs;
 use crate::made::banks::largest;
 use crate::made::rows::{few_rows, few_words, late_one_of, near, near_one_of};
-use crate::spec::residual::{reduced_gate, OUTER_GATES};
+use crate::spec::gates::gate_row;
+use crate::spec::residual::OUTER_GATES;
 
 const XOR: usize = 2;
 const ADD: usize = 3;
@@ -87,21 +88,25 @@ type Case = (u32, &'static [u64], &'static [u64], u64, Option<Completion>);
 
 const TOP: u64 = 1 << 63;
 
-const CASES: [Case; 45] = [
-    // words that reach 2^w: high bits stay in place under Xor, and are no part of a difference
-    (8, &[257, 4], &[], 5, atoms(ADD, 0, 1)),
-    (8, &[257, 260], &[], 5, atoms(XOR, 0, 1)),
-    (8, &[257, 260, 4], &[], 5, atoms(XOR, 0, 1)),
+const CASES: [Case; 50] = [
+    // words that reach 2^w: what completes them is below 2^w, and they complete nothing
+    (8, &[257, 4], &[], 5, atoms(XOR, 0, 1)),
+    (8, &[257, 260], &[], 5, None),
+    (8, &[257, 260, 4], &[], 5, atoms(XOR, 0, 2)),
     (9, &[257, 4], &[], 5, None),
-    (8, &[257], &[4], 5, pair(ADD, 0, 0)),
-    (8, &[257], &[260], 5, pair(XOR, 0, 0)),
-    (8, &[257], &[260, 4], 5, pair(XOR, 0, 0)),
+    (8, &[257], &[4], 5, pair(XOR, 0, 0)),
+    (8, &[257], &[260], 5, None),
+    (8, &[257], &[260, 4], 5, pair(XOR, 0, 1)),
     (8, &[1], &[260], 5, None),
-    (8, &[1, 260], &[], 5, atoms(ADD, 1, 0)),
+    (8, &[1, 260], &[], 5, atoms(XOR, 1, 0)),
     (8, &[256 + 250], &[11], 5, pair(ADD, 0, 0)),
-    (63, &[TOP + 1], &[4], 5, pair(ADD, 0, 0)),
-    (63, &[TOP + 1], &[TOP + 4], 5, pair(XOR, 0, 0)),
+    (63, &[TOP + 1], &[4], 5, pair(XOR, 0, 0)),
+    (63, &[TOP + 1], &[TOP + 4], 5, None),
     (64, &[TOP + 1], &[4], 5, None),
+    (1, &[2], &[], 0, None),
+    (1, &[2, 0], &[], 0, atoms(XOR, 0, 1)),
+    (1, &[2], &[0], 0, pair(XOR, 0, 0)),
+    (2, &[6], &[0], 0, None),
     // the same row in several slots
     (8, &[1, 4, 4, 4], &[], 5, atoms(XOR, 0, 1)),
     (8, &[4, 4, 1, 1], &[], 5, atoms(XOR, 0, 2)),
@@ -115,9 +120,10 @@ const CASES: [Case; 45] = [
     (8, &[3], &[], 6, atoms(ADD, 0, 0)),
     (8, &[128], &[], 0, atoms(XOR, 0, 0)),
     // b below a: 4 completes 257, and 257 isn't the 1 that completes 4
-    (8, &[4, 257], &[], 5, atoms(ADD, 1, 0)),
+    (8, &[4, 257], &[], 5, atoms(XOR, 1, 0)),
     (8, &[4, 257], &[1], 5, pair(XOR, 0, 0)),
-    (8, &[9, 4, 257], &[4], 5, atoms(ADD, 2, 1)),
+    (8, &[9, 4, 257], &[4], 5, atoms(XOR, 2, 1)),
+    (8, &[11, 256 + 250], &[], 5, atoms(ADD, 1, 0)),
     // Xor before Add, also where Add has a lesser atom; equal residuals count for Xor
     (8, &[3, 2, 7], &[], 5, atoms(XOR, 1, 2)),
     (8, &[3, 9], &[2, 12], 5, pair(XOR, 1, 1)),
@@ -144,7 +150,8 @@ const CASES: [Case; 45] = [
     (8, &[], &[], 0, None),
 ];
 
-/// A row that differs from the residual in one word, before the right one and alone; in the bank and in the index, under both gates.
+/// A row that differs from the residual in one word, before the right one and alone; in the bank and in the index, under both gates; alone
+/// also in a bit from 2^w up.
 fn one_word_changed(file: &mut DataFile, place: usize) {
     for (gate, first, right) in [(XOR, 7, 2), (ADD, 250, 11)] {
         let wrong = changed(&[right; 16], place, 1);
@@ -155,9 +162,11 @@ fn one_word_changed(file: &mut DataFile, place: usize) {
         in_index.pairs[0] = wrong;
         in_index.case(file, pair(gate, 0, 1));
     }
-    let mut alone = Lent::of_words(8, &[7], &[0], 5);
-    alone.pairs[0] = changed(&[2; 16], place, 1);
-    alone.case(file, None);
+    for bits in [1, 256] {
+        let mut alone = Lent::of_words(8, &[7], &[0], 5);
+        alone.pairs[0] = changed(&[2; 16], place, bits);
+        alone.case(file, None);
+    }
 }
 
 /// As many lines of each answer over rows of few kinds.
@@ -186,7 +195,7 @@ fn few(inputs: &mut Inputs) -> Lent {
     let gate = inputs.one_of(&OUTER_GATES);
     let others = if pairs.is_empty() { &atoms } else { &pairs };
     let (a, b) = (late_one_of(inputs, &atoms), late_one_of(inputs, others));
-    let sum = reduced_gate(&a, &b, gate, width);
+    let sum = gate_row(&a, &b, gate, width);
     let target = match inputs.below(6) {
         0 => near(inputs, sum, width),
         1 => few_words(inputs, width),

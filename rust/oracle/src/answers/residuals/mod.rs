@@ -6,20 +6,22 @@ mod refused;
 
 use crate::access::{self, Completion, Part, Row};
 use crate::answers::data_file::DataFile;
+use crate::spec::gates::are_reduced;
 use crate::spec::residual::try_everything;
 
 const BUILT: u64 = 21;
 const REFUSED: u64 = 22;
 const LENT: u64 = 23;
 
-const HEAD: [&str; 24] = [
+const HEAD: [&str; 26] = [
     "  21 NV W POINTS.. TARGET.. W2 LIMIT ROW.. ANSWER GATE A B",
     "      16 points of NV words each and 16 target words, all below 2^W: of them the Rust's bank at width W. Over its rows",
-    "      the first LIMIT pairs of the Rust's index at width W2. ROW: 16 words below 2^W2, searched for at width W2.",
+    "      the first LIMIT pairs of the index at width W2, as in kind 13. ROW: 16 words below 2^W2, searched for at width W2.",
     "      ANSWER: 0 nothing, 1 atoms A and B, 2 atom A and pair B. GATE: the outer gate, 2 Xor or 3 Add; 0 beside nothing.",
-    "      The answer is the Rust's: its gate_residual, and ValMap::find in its two maps, looped over the two gates and the",
-    "      atoms as the specification has it, up to the first hit, without its check by samples. The specification's, by",
-    "      trying everything, is the same.",
+    "      The answer is the specification's, by trying everything, where Xor's residual is reduced (02, 2.3). Where the words",
+    "      of atoms and pairs are below 2^W2 the Rust's is the same: its gate_residual, and ValMap::find in its two maps,",
+    "      looped over the two gates and the atoms as the specification has it, up to the first hit, without its check by",
+    "      samples. Where some reach it the Rust is not asked (docs/DIFFERENCES.md, D3).",
     "  22 W COUNT ATOMSLEN N LISTEDLEN WORD REFUSAL",
     "      Width, claimed atoms, length of their rows, claimed pairs, length of their rows. All row words are 0. The target's",
     "      last word is WORD, the others are 0. Not asked of the Rust: the refusal is the specification's for the residual",
@@ -33,10 +35,11 @@ const HEAD: [&str; 24] = [
     "one word changed (the first, the sixteenth, any), any row, one word throughout, or zero. The limit is at most 500.",
     "In lines of kind 22 a lent array has at most 8,000 numbers.",
     "The first lines of kind 23 are named cases, mostly of rows that are one word sixteen times, in this order: words that",
-    "reach 2^W (width 8, atoms 257 and 4, target 5: Xor leaves high bits in place, so the answer is by Add); the same row in",
-    "several slots; an atom with itself; b below a; Xor before Add; the bank before the index, but a lesser atom before both;",
-    "differences below 0; the first and the last slots; no atoms; rows that differ from the residual in one word. After them",
-    "come rows of few kinds: as many lines with nothing as with two atoms and with an atom and a pair, by Xor and by Add.",
+    "reach 2^W (width 8, atoms 257 and 4, target 5: 4 completes 257 under Xor; a word that reaches 2^W is completed, and never",
+    "completes another); the same row in several slots; an atom with itself; b below a; Xor before Add; the bank before the",
+    "index, but a lesser atom before both; differences below 0; the first and the last slots; no atoms; rows that differ from",
+    "the residual in one word, in a bit from 2^W up too. After them come rows of few kinds, here and there with words from 2^W",
+    "up: as many lines with nothing as with two atoms and with an atom and a pair, by Xor and by Add.",
 ];
 
 /// The whole file.
@@ -48,9 +51,18 @@ pub fn data_file() -> Vec<u8> {
     file.into_bytes()
 }
 
-/// The Rust's answer, which must be the specification's.
+/// The Rust's answer for each target where all words are below 2^width, else the specification's.
+fn answers(targets: &[Row], atoms: &[Row], pairs: &[Row], width: u32) -> Vec<Option<Completion>> {
+    if are_reduced(atoms, width) && are_reduced(pairs, width) {
+        return access::completions(targets, atoms, pairs, width);
+    }
+    let stated = |target| try_everything(target, atoms, pairs, width);
+    targets.iter().map(stated).collect()
+}
+
+/// The same for one target; the Rust's must be the specification's.
 fn answer(target: &Row, atoms: &[Row], pairs: &[Row], width: u32) -> Option<Completion> {
-    let found = access::completions(&[*target], atoms, pairs, width)[0];
+    let found = answers(&[*target], atoms, pairs, width)[0];
     assert_eq!(found, try_everything(target, atoms, pairs, width));
     found
 }

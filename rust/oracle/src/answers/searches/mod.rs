@@ -13,7 +13,7 @@ const PRODUCTS: u64 = 16;
 const PRODUCTS_REFUSED: u64 = 17;
 const CANDIDATES_REFUSED: u64 = 18;
 
-const HEAD: [&str; 26] = [
+const HEAD: [&str; 28] = [
     "  15 W N WORDS.. ORDER.. P T ANSWER COUNT SLOTS..",
     "      N pairs with these first words, their order list, and p and t. ANSWER: 0 used (collect_mul_probe0_candidates says",
     "      true), 1 not used, 100 + r refused r; then the COUNT slots of the list, none unless used. The Rust's list comes in",
@@ -21,10 +21,11 @@ const HEAD: [&str; 26] = [
     "      such words, the answer is the specification's. The refusals (2, 5, 8) are the specification's.",
     "  16 NV W POINTS.. TARGET.. W2 LIMIT ROW.. ANSWER A B",
     "      16 points of NV words each and 16 target words, all below 2^W: of them the Rust's bank at width W. Over its rows",
-    "      the first LIMIT pairs of the Rust's index at width W2. ROW: 16 words below 2^W2, searched for at width W2.",
+    "      the first LIMIT pairs of the index at width W2: the Rust's, but where the bank's words reach 2^W2 that of 02, 2.3,",
+    "      whose rows are reduced (D3). ROW: 16 words below 2^W2, searched for at width W2.",
     "      ANSWER: 0 nothing, 1 atoms A and B, 2 atom A and pair B. The answer is the specification's. The Rust's layer 1",
-    "      finds two atoms exactly if this one does, though maybe others (D2). Its product loop finds what the second stage of",
-    "      this one finds, unless that is a pair whose first word reaches 2^W2 (D1).",
+    "      finds two atoms exactly if this one does, though maybe others (D2). Its product loop over the same rows finds what",
+    "      the second stage of this one finds: no pair's first word reaches 2^W2 (D1).",
     "  17 W COUNT ATOMSLEN N LISTEDLEN ORDERLEN WORD SWAP REFUSAL",
     "      Width, claimed atoms, length of their rows, claimed pairs, length of their rows, length of the order list. All row",
     "      words are 0; the order list is 0, 1, 2 and so on, the first two exchanged if SWAP is 1. The target's last word is",
@@ -35,10 +36,11 @@ const HEAD: [&str; 26] = [
     "The first lines of kind 15 are the specification's P5 to P8 (of P7 the 256 first words in two lines). After them come",
     "every width, with p odd and even; p with 7, 8, 9 and more trailing zeros; p = 0; no pairs; 200 pairs; words that reach",
     "2^W; then what is refused: wrong order lists, p or t too large, widths.",
-    "The first lines of kind 16 are over P2's bank, then D1 and D2. After them come banks whose index is small, banks of all",
-    "styles at every width, searches at another width than the bank's, and searches whose answer hangs on the order in which",
-    "the pairs are tried. The row is the product of two atoms or of an atom and a pair, such a product with one word changed",
-    "(the first, the sixteenth, any), any row, one word throughout, or zero. The limit is at most 500; some indexes are whole.",
+    "The first lines of kind 16 are over P2's bank, then over D1's banks, with an index at the search's width here, and D2.",
+    "After them come banks whose index is small, banks of all styles at every width, searches at another width than the",
+    "bank's, and searches whose answer hangs on the order in which the pairs are tried. The row is the product of two atoms or",
+    "of an atom and a pair, such a product with one word changed (the first, the sixteenth, any), any row, one word",
+    "throughout, or zero. The limit is at most 500; some indexes are whole.",
     "In lines of kinds 17 and 18 a lent array has at most 8,000 numbers.",
 ];
 

@@ -9,7 +9,8 @@ use crate::answers::searched::{changed, p2, small_bank, Searched, LIMIT_MAX};
 use crate::differences::known::{self, Input};
 use crate::differences::Setting;
 use crate::inputs::{repeated, Inputs};
-use crate::made::banks::{largest, BankInput};
+use crate::made::banks::BankInput;
+use crate::spec::gates::are_reduced;
 use crate::spec::product::{first_stage, fits, is_used, product, Answer};
 
 /// Banks with a small index, for each variable count.
@@ -33,27 +34,24 @@ fn line(file: &mut DataFile, searched: &Searched, row: Row) {
     searched.line(file, PRODUCTS, &row, &[answer, a as u64, b as u64]);
 }
 
-/// Two atoms are found by both or by none. The product loop finds what the specification's second stage finds, but for pairs whose
-/// first words reach 2^width.
+/// Two atoms are found by both or by none. The product loop finds what the specification's second stage finds, since no pair's first
+/// word reaches 2^width.
 fn ask_the_rust(setting: &Setting, row: Row) {
     let first = first_stage(&row, &setting.rows, setting.width);
     assert_eq!(setting.two_atoms(row).is_some(), first.is_some());
-    let second = setting.second_stage(&row);
-    if setting.product_loop(row) != second {
-        let (_, pair) = second.expect("the Rust finds nothing else");
-        assert!(setting.index.rows[pair][0] > largest(setting.width));
-    }
+    assert!(are_reduced(&setting.index.rows, setting.width));
+    assert_eq!(setting.product_loop(row), setting.second_stage(&row));
 }
 
 pub fn lines(file: &mut DataFile) {
     sheet(file);
     for input in &known::PRODUCT_LOOP {
-        let found = difference(file, input).product_loop(input.row());
-        assert_eq!(found, input.rust);
+        at_search_width(file, input);
     }
     for input in &known::FIRST_STAGE {
-        let found = difference(file, input).two_atoms(input.row());
-        assert_eq!(found, input.rust);
+        let setting = at_search_width(file, input);
+        assert_eq!(setting.try_everything(&input.row()), input.answer);
+        assert_eq!(setting.two_atoms(input.row()), input.rust);
     }
     let inputs = &mut Inputs::of_kind(PRODUCTS);
     small(file, inputs);
@@ -84,12 +82,11 @@ fn sheet(file: &mut DataFile) {
     }
 }
 
-/// A line for an input that shows a difference.
-fn difference(file: &mut DataFile, input: &Input) -> Setting {
+/// A line for an input that shows a difference, with the whole index at the width of the search: D2 shows there, D1 doesn't.
+fn at_search_width(file: &mut DataFile, input: &Input) -> Setting {
     let searched = Searched::new(input.bank(), input.width, LIMIT_MAX);
-    let setting = &searched.setting;
-    assert_eq!(setting.index.all, setting.index.pairs.len());
-    assert_eq!(setting.try_everything(&input.row()), input.answer);
+    let index = &searched.setting.index;
+    assert_eq!(index.all, index.pairs.len());
     line(file, &searched, input.row());
     searched.setting
 }
