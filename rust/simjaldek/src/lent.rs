@@ -168,9 +168,9 @@ pub fn product_search(
 
 /// The first atom that an atom or a pair completes to the target, under Xor, else under Add: atoms ascending, for each first the atoms,
 /// then the pairs, by slot; in the order of the search, not the cheapest. A row completes an atom where it is, word for word, the atom's
-/// [`gate_residual`]: the xor, or the sum modulo 2^w, of the two is the target, on whatever rows are lent. It has the target's words at the points
-/// and may differ elsewhere. "Nothing" is certain only with a whole index of these very atoms at this width, and atoms' rows below 2^w.
-/// Refuses 2, 4, 5, 7.
+/// [`gate_residual`]: the xor, or the sum, of the two modulo 2^w is the target, on whatever rows are lent. That residual is below 2^w: a
+/// lent row that isn't can be completed, and completes none. What is found has the target's words at the points and may differ elsewhere.
+/// "Nothing" is certain only with a whole index of these very atoms at this width, and atoms' rows below 2^w. Refuses 2, 4, 5, 7.
 pub fn residual_search(
     width: u32,
     atoms: Atoms<'_>,
@@ -224,7 +224,8 @@ pub fn find_row(width: u32, atoms: Atoms<'_>, row: &[u64]) -> Result<Option<Atom
     unless_refused(reply.refusal, slot)
 }
 
-/// Lists the pairs of the atoms' rows, at most `limit`, with their rows and the order list. Refuses 2, 3, 4, 7.
+/// Lists the pairs of the atoms' rows, at most `limit`, with their rows and the order list. A pair's row is its gate's modulo 2^w, also where
+/// atoms' rows reach 2^w. Refuses 2, 3, 4, 7.
 pub fn build_index(
     width: u32,
     atoms: Atoms<'_>,
@@ -549,8 +550,8 @@ pub fn is_better(cost: Cost, other: Cost) -> bool {
     mark == 1
 }
 
-/// The gate of this number in each of sixteen places. Add and Mul reduce to the width; And, Or and Xor leave high bits in place. Refuses
-/// 2, 4, and 6 for a number above 4.
+/// The gate of this number in each of sixteen places, modulo 2^w; the words of `a` and `b` may be any. Refuses 2, 4, and 6 for a number
+/// above 4.
 pub fn gate_apply(a: &[u64], b: &[u64], gate: u32, width: u32) -> Result<Row, Refusal> {
     // SAFETY: each pointer comes with its own slice's length; the function reads within these lengths and keeps no pointer.
     let reply =
@@ -558,8 +559,8 @@ pub fn gate_apply(a: &[u64], b: &[u64], gate: u32, width: u32) -> Result<Row, Re
     unless_refused(reply.refusal, reply.row)
 }
 
-/// What completes `a` to the target under Xor and Add, where the target's words are below 2^w; zeros under the other gates. Refuses 2, 4, and 6
-/// for a number above 4.
+/// What completes `a` to the target under Xor and Add, modulo 2^w; zeros under the other gates. The words may be any: the gate of `a` and
+/// this row is the target modulo 2^w. Refuses 2, 4, and 6 for a number above 4.
 pub fn gate_residual(target: &[u64], a: &[u64], gate: u32, width: u32) -> Result<Row, Refusal> {
     // SAFETY: each pointer comes with its own slice's length; the function reads within these lengths and keeps no pointer.
     let reply = unsafe {
@@ -575,7 +576,8 @@ pub fn gate_residual(target: &[u64], a: &[u64], gate: u32, width: u32) -> Result
     unless_refused(reply.refusal, reply.row)
 }
 
-/// Whether the gate gives the target in all sixteen places. Refuses 2, 4, and 6 for a number above 4.
+/// Whether the gate, modulo 2^w, gives the target in all sixteen places. The target's words are compared as they are: one that isn't below
+/// 2^w never matches. Refuses 2, 4, and 6 for a number above 4.
 pub fn gate_matches(
     a: &[u64],
     b: &[u64],

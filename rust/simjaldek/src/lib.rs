@@ -134,17 +134,19 @@ pub fn fingerprint(row: &Row) -> u64 {
     lent::fingerprint(row).expect("sixteen words are never refused")
 }
 
-/// The gate in each of sixteen places. Add and Mul reduce to the width; And, Or and Xor leave high bits in place. Refuses 2.
+/// The gate in each of sixteen places, modulo 2^w; the words of `a` and `b` may be any. Refuses 2.
 pub fn gate_apply(a: &Row, b: &Row, gate: Gate, width: u32) -> Result<Row, Refusal> {
     lent::gate_apply(a, b, gate.number(), width)
 }
 
-/// What completes `a` to the target under Xor and Add, where the target's words are below 2^w; zeros under the other gates. Refuses 2.
+/// What completes `a` to the target under Xor and Add, modulo 2^w; zeros under the other gates. The words may be any: the gate of `a` and
+/// this row is the target modulo 2^w. Refuses 2.
 pub fn gate_residual(target: &Row, a: &Row, gate: Gate, width: u32) -> Result<Row, Refusal> {
     lent::gate_residual(target, a, gate.number(), width)
 }
 
-/// Whether the gate gives the target in all sixteen places, words compared as they are. Refuses 2.
+/// Whether the gate, modulo 2^w, gives the target in all sixteen places. The target's words are compared as they are: one that isn't below
+/// 2^w never matches. Refuses 2.
 pub fn gate_matches(
     a: &Row,
     b: &Row,

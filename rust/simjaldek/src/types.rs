@@ -30,7 +30,7 @@ pub struct AtomSlot(pub u32);
 #[derive(Clone, Copy, Debug, PartialEq, Eq, PartialOrd, Ord, Hash)]
 pub struct PairSlot(pub u32);
 
-/// A gate on rows.
+/// A gate on rows: what each gives is modulo 2^w.
 #[derive(Clone, Copy, Debug, PartialEq, Eq, Hash)]
 pub enum Gate {
     /// Gate 0.
@@ -39,9 +39,9 @@ pub enum Gate {
     Or,
     /// Gate 2.
     Xor,
-    /// Gate 3, modulo 2^w.
+    /// Gate 3.
     Add,
-    /// Gate 4, modulo 2^w.
+    /// Gate 4.
     Mul,
 }
 

@@ -93,16 +93,21 @@ fn sums_wrap_at_the_width() {
     assert_eq!(found, two_atoms(Gate::Add, 0, 1));
 }
 
-/// Xor leaves high bits in place: 257 ^ 4 is not 5 at width 8, 257 + 4 is.
+/// Residuals are reduced: a row that reaches 2^w is completed like its reduced one, and completes none.
 #[test]
 fn rows_that_reach_the_width() {
-    assert_eq!(of_words(&[257, 4], &[], 5), two_atoms(Gate::Add, 0, 1));
+    // 257 ^ 4 is 5 modulo 256
+    assert_eq!(of_words(&[257, 4], &[], 5), two_atoms(Gate::Xor, 0, 1));
     // what completes 4 is 1 and not 257, so that b is below a
-    assert_eq!(of_words(&[4, 257], &[], 5), two_atoms(Gate::Add, 1, 0));
+    assert_eq!(of_words(&[4, 257], &[], 5), two_atoms(Gate::Xor, 1, 0));
     assert_eq!(of_words(&[4], &[257], 5), Completion::Nothing);
-    // found word for word, high bits and all
-    assert_eq!(of_words(&[256], &[261], 5), atom_and_pair(Gate::Xor, 0, 0));
-    assert_eq!(of_words(&[256, 261], &[], 5), two_atoms(Gate::Xor, 0, 1));
+    // 256 ^ 261 is 5, but what completes 256 is 5, and 261 isn't
+    assert_eq!(of_words(&[256], &[261], 5), Completion::Nothing);
+    assert_eq!(of_words(&[256, 261], &[], 5), Completion::Nothing);
+    assert_eq!(
+        of_words(&[256], &[261, 5], 5),
+        atom_and_pair(Gate::Xor, 0, 1)
+    );
 }
 
 /// A row that is the residual but for one bit of one place is not found.
@@ -121,11 +126,10 @@ fn all_sixteen_words_are_compared() {
             wrong[place] ^= 1 << bit;
             let found = searched(8, &[atom], &[wrong, right], &target);
             assert_eq!(found, atom_and_pair(gate, 0, 1), "{place} {bit}");
-            // an atom is completed too, and Add drops its bit 63
+            // an atom is completed too, where its bit 63 doesn't count
             let found = searched(8, &[atom, wrong], &[], &target);
-            let by_itself = gate == Gate::Add && bit == 63;
             let expected = [Completion::Nothing, two_atoms(gate, 1, 0)];
-            assert_eq!(found, expected[usize::from(by_itself)], "{place} {bit}");
+            assert_eq!(found, expected[usize::from(bit == 63)], "{place} {bit}");
         }
     }
 }
@@ -169,10 +173,11 @@ fn trying_everything(width: u32, atoms: &[Row], pairs: &[Row], target: &Row) -> 
     let slot = |rows: &[Row], row: Row| rows.iter().position(|&other| other == row);
     for gate in [Gate::Xor, Gate::Add] {
         for (a, row) in (0..).zip(atoms) {
-            let wanted: Row = std::array::from_fn(|place| match gate {
+            let each = |place: usize| match gate {
                 Gate::Xor => target[place] ^ row[place],
-                _ => target[place].wrapping_sub(row[place]) & bitmask(width),
-            });
+                _ => target[place].wrapping_sub(row[place]),
+            };
+            let wanted: Row = std::array::from_fn(|place| each(place) & bitmask(width));
             if let Some(b) = slot(atoms, wanted) {
                 return two_atoms(gate, a, b as u32);
             }
@@ -237,7 +242,7 @@ fn kind(answer: Completion) -> usize {
 fn answers_are_those_of_trying_everything() {
     let mut draws = Draws(1);
     let mut kinds = [0; 5];
-    for round in 0..30_000 {
+    for round in 0..40_000 {
         let width = draws.one_of(&[1, 2, 3, 4, 8, 64]);
         let few = bitmask(width.min(3));
         let high = 1u64.checked_shl(width).unwrap_or(0);

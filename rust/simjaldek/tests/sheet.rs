@@ -180,36 +180,49 @@ fn target_word_256() {
     assert_eq!(build(255), Ok(()));
 }
 
-/// The answer over the bank's whole index at a width other than the bank's, which has so many pairs: by lent arrays, since an
-/// [`Index`] has its bank's width.
-fn search(bank: &Bank, width: u32, pairs: usize, target: &[u64]) -> Product {
+/// The answer at a width over the bank's whole index of another width, which has so many pairs: by lent arrays, since an [`Index`] has
+/// its bank's width and searches at it.
+fn search(bank: &Bank, index: (u32, usize), width: u32, target: &[u64]) -> Product {
+    let (index_width, pairs) = index;
     let mut index = IndexBuffers::new(pairs);
-    let built = lent::build_index(width, bank.lend(), pairs, index.lend());
+    let built = lent::build_index(index_width, bank.lend(), pairs, index.lend());
     assert_eq!(built, Ok(Built { pairs, cut: false }));
     let target = repeated(target);
     lent::product_search(width, bank.lend(), index.pairs(pairs), &target).unwrap()
 }
 
-#[test]
-fn d1() {
-    let bank = |width, words: &[u64], target| {
-        Bank::build(&one_variable(width, words), &[target; 16]).unwrap()
-    };
-    let four = bank(3, &[0, 1, 2, 3], 0);
-    assert_eq!(four.len(), 17);
-    let answer = |slot| Product::AtomPair(AtomSlot(1), PairSlot(slot));
-    assert_eq!(search(&four, 2, 172, &[3, 1, 3, 3]), answer(74));
-    let zeros = bank(6, &[0], 4);
-    assert_eq!(zeros.len(), 7);
-    assert_eq!(search(&zeros, 5, 18, &[25]), answer(6));
+/// A bank of one variable, target zeros.
+fn bank_at(width: u32, words: &[u64]) -> Bank {
+    Bank::build(&one_variable(width, words), &[0; 16]).unwrap()
 }
 
+/// An index of a greater width than the search's.
 #[test]
-fn d1_with_eight_points() {
-    let points = one_variable(3, &[0, 1, 2, 3, 4, 5, 6, 7]);
-    let bank = Bank::build(&points, &[0; 16]).unwrap();
-    let answer = Product::AtomPair(AtomSlot(1), PairSlot(92));
-    assert_eq!(search(&bank, 2, 216, &[3, 1, 3, 3]), answer);
+fn d1() {
+    let answer = |atom, pair| Product::AtomPair(AtomSlot(atom), PairSlot(pair));
+    let bank = bank_at(3, &[0, 1, 2, 7]);
+    assert_eq!(bank.len(), 17);
+    assert_eq!(search(&bank, (3, 206), 2, &[1, 0, 1, 2]), answer(11, 52));
+    let bank = bank_at(3, &[0, 2, 7]);
+    assert_eq!(search(&bank, (3, 127), 2, &[3, 1, 1]), answer(1, 30));
+    let bank = bank_at(3, &[0, 1, 2, 3]);
+    assert_eq!(search(&bank, (3, 208), 2, &[3, 1, 3, 3]), answer(1, 74));
+    let zeros = bank_at(5, &[0]);
+    assert_eq!(zeros.len(), 6);
+    assert_eq!(search(&zeros, (5, 7), 4, &[11]), answer(1, 3));
+}
+
+/// The same banks with an index of the search's width: the pairs are below 2^w, also where the bank isn't, and the Rust's loop over them
+/// finds the same (crates/compare/data/searches.txt).
+#[test]
+fn d1_wants_a_wider_index() {
+    let answer = |atom, pair| Product::AtomPair(AtomSlot(atom), PairSlot(pair));
+    let bank = bank_at(3, &[0, 1, 2, 7]);
+    assert_eq!(search(&bank, (2, 46), 2, &[1, 0, 1, 2]), answer(11, 28));
+    let bank = bank_at(3, &[0, 1, 2, 3]);
+    assert_eq!(search(&bank, (2, 46), 2, &[3, 1, 3, 3]), answer(1, 33));
+    let zeros = bank_at(5, &[0]);
+    assert_eq!(search(&zeros, (4, 10), 4, &[11]), answer(1, 6));
 }
 
 #[test]

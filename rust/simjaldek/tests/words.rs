@@ -125,18 +125,17 @@ fn gates() {
                 Gate::And => x & y,
                 Gate::Or => x | y,
                 Gate::Xor => x ^ y,
-                Gate::Add => x.wrapping_add(y) & mask(width),
-                Gate::Mul => x.wrapping_mul(y) & mask(width),
+                Gate::Add => x.wrapping_add(y),
+                Gate::Mul => x.wrapping_mul(y),
             };
-            let target: Row = std::array::from_fn(|i| each(a[i], b[i]));
+            let target: Row = std::array::from_fn(|i| each(a[i], b[i]) & mask(width));
             assert_eq!(gate_apply(&a, &b, gate, width), Ok(target));
             assert_eq!(gate_matches(&a, &b, &target, gate, width), Ok(true));
             let mut other = target;
             other[15] ^= 1;
             assert_eq!(gate_matches(&a, &b, &other, gate, width), Ok(false));
             let residual: Row = std::array::from_fn(|i| match gate {
-                Gate::Xor => b[i],
-                Gate::Add => b[i] & mask(width),
+                Gate::Xor | Gate::Add => b[i] & mask(width),
                 _ => 0,
             });
             assert_eq!(gate_residual(&target, &a, gate, width), Ok(residual));
