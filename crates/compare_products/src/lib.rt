@@ -6,7 +6,7 @@ use search_product::ProductAnswer;
 ghost use Prim.Native.Nat.{_+_, _≤_};
 ghost use lib.ListN.{length};
 
-// 16 NV W, the points' words, the target, W2 LIMIT, the row, ANSWER A B
+// 16 NV W, the points' words, the target, W2 W3 LIMIT, the row, ANSWER A B
 pub fn product_same(line: &[u64]) -> bool {
     if line.len() < 3 {
         return false;
@@ -16,7 +16,7 @@ pub fn product_same(line: &[u64]) -> bool {
     }
     let nv = line[1] as usize;
     let at = 3 + 16 * nv;
-    if line.len() != at + 37 {
+    if line.len() != at + 38 {
         return false;
     }
     let mut atom_rows = [0u64; 7664];
@@ -24,9 +24,9 @@ pub fn product_same(line: &[u64]) -> bool {
     search_is(line, at + 16, atom_count, &atom_rows)
 }
 
-// Whether the search over these atoms and their index, of at most 500 pairs, answers as stands from `at` on.
+// Whether the search over these atoms and their index, of at most 500 pairs and of its own width, answers as stands from `at` on.
 fn search_is(line: &[u64], at: usize, atom_count: usize, atom_rows: &[u64]) -> bool
-    requires { ⌜ (at ≤ 500) × (at + 21 ≤ length (now line)) ⌝ }
+    requires { ⌜ (at ≤ 500) × (at + 22 ≤ length (now line)) ⌝ }
 {
     let mut pair_rows = [OLD_WORD; 8000];
     let mut order = [OLD_HALF; 500];
@@ -34,13 +34,13 @@ fn search_is(line: &[u64], at: usize, atom_count: usize, atom_rows: &[u64]) -> b
         &mut pair_rows,
         &mut order,
         line[at],
-        line[at + 1],
+        line[at + 2],
         atom_count,
         atom_rows,
     );
-    let row = compare_lines::inner::row_at(line, at + 2);
+    let row = compare_lines::inner::row_at(line, at + 3);
     let r = search_product::product_search(
-        narrow(line[at]),
+        narrow(line[at + 1]),
         atom_count,
         atom_rows,
         n,
@@ -48,7 +48,7 @@ fn search_is(line: &[u64], at: usize, atom_count: usize, atom_rows: &[u64]) -> b
         &order,
         row,
     );
-    product_is(r, line, at + 18)
+    product_is(r, line, at + 19)
 }
 
 // Whether the answer is the one from `at` on.

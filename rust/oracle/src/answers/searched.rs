@@ -1,4 +1,4 @@
-//! Built banks with indexes of their own, for the lines that search them.
+//! Built banks with their indexes, for the lines that search them.
 
 use crate::access::Row;
 
@@ -14,16 +14,23 @@ pub const LIMIT_MAX: usize = 500;
 /// A bank with its index.
 pub struct Searched {
     bank: BankInput,
+    index_width: u32,
     limit: usize,
     pub setting: Setting,
 }
 
 impl Searched {
-    /// The Rust's bank must be the specification's, and its index where the bank's words are below 2^width.
+    /// With the index at the search's width.
     pub fn new(bank: BankInput, width: u32, limit: usize) -> Self {
+        Self::with_index(bank, width, width, limit)
+    }
+
+    /// With an index of another width than the search's. The Rust's bank must be the specification's, and its index where the bank's
+    /// words are below 2^index_width.
+    pub fn with_index(bank: BankInput, index_width: u32, width: u32, limit: usize) -> Self {
         assert!(limit <= LIMIT_MAX);
-        let setting = Setting::new(bank.bank(), limit, width);
-        let expected = spec::index(&setting.rows, width, limit);
+        let setting = Setting::with_index(bank.bank(), limit, index_width, width);
+        let expected = spec::index(&setting.rows, index_width, limit);
         let index = &setting.index;
         assert_eq!(
             (&index.pairs, &index.rows, index.all > limit),
@@ -31,17 +38,18 @@ impl Searched {
         );
         Self {
             bank,
+            index_width,
             limit,
             setting,
         }
     }
 
-    /// A line of a kind: the bank, the width and the limit, the row searched for, the answer.
+    /// A line of a kind: the bank, the widths of index and search and the limit, the row searched for, the answer.
     pub fn line(&self, file: &mut DataFile, kind: u64, row: &Row, answer: &[u64]) {
         let width = self.setting.width;
         assert!(row.iter().all(|&word| word <= largest(width)));
         let bank = self.bank.numbers();
-        let asked = [width.into(), self.limit as u64];
+        let asked = [self.index_width.into(), width.into(), self.limit as u64];
         assert!(1 + bank.len() + asked.len() + row.len() + answer.len() <= NUMBERS_MAX);
         file.line(kind, &[&bank, &asked, row, answer]);
     }

@@ -1,4 +1,4 @@
-//! Lines of kind 21: residual searches over built banks with indexes of their own.
+//! Lines of kind 21: residual searches over built banks with their indexes.
 
 use crate::access::{Completion, Part, Row};
 
@@ -209,7 +209,8 @@ fn every_width(file: &mut DataFile, inputs: &mut Inputs) {
     }
 }
 
-/// Searches at a lesser width than the bank's (one less, any), where its words may reach 2^width, and at a greater one.
+/// Searches at a lesser width than the bank's (one less, any), where its words may reach 2^width, and at a greater one, each with an
+/// index at the search's width and with one at the bank's.
 fn other_widths(file: &mut DataFile, inputs: &mut Inputs) {
     for num_vars in 1..=6 {
         for turn in 0..OTHER_WIDTHS {
@@ -218,11 +219,14 @@ fn other_widths(file: &mut DataFile, inputs: &mut Inputs) {
             let greater = bank_width + inputs.below(u64::from(65 - bank_width)) as u32;
             let width = [bank_width - 1, any, greater][turn];
             let bank = BankInput::of_any_style(inputs, num_vars, bank_width);
+            let other = Searched::with_index(bank.clone(), bank_width, width, LIMIT_MAX);
             let searched = Searched::new(bank, width, LIMIT_MAX);
             for style in [Sought::AtomAndPair(2), inputs.one_of(&SOUGHT)] {
                 let row = sought(inputs, &searched.setting, style);
                 line(file, &searched, row);
             }
+            let row = sought(inputs, &other.setting, Sought::AtomAndPair(2));
+            line(file, &other, row);
         }
     }
 }

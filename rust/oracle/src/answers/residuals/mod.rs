@@ -13,13 +13,13 @@ const BUILT: u64 = 21;
 const REFUSED: u64 = 22;
 const LENT: u64 = 23;
 
-const HEAD: [&str; 26] = [
-    "  21 NV W POINTS.. TARGET.. W2 LIMIT ROW.. ANSWER GATE A B",
+const HEAD: [&str; 27] = [
+    "  21 NV W POINTS.. TARGET.. W2 W3 LIMIT ROW.. ANSWER GATE A B",
     "      16 points of NV words each and 16 target words, all below 2^W: of them the Rust's bank at width W. Over its rows",
-    "      the first LIMIT pairs of the index at width W2, as in kind 13. ROW: 16 words below 2^W2, searched for at width W2.",
+    "      the first LIMIT pairs of the index at width W2, as in kind 13. ROW: 16 words below 2^W3, searched for at width W3.",
     "      ANSWER: 0 nothing, 1 atoms A and B, 2 atom A and pair B. GATE: the outer gate, 2 Xor or 3 Add; 0 beside nothing.",
     "      The answer is the specification's, by trying everything, where Xor's residual is reduced (02, 2.3). Where the words",
-    "      of atoms and pairs are below 2^W2 the Rust's is the same: its gate_residual, and ValMap::find in its two maps,",
+    "      of atoms and pairs are below 2^W3 the Rust's is the same: its gate_residual, and ValMap::find in its two maps,",
     "      looped over the two gates and the atoms as the specification has it, up to the first hit, without its check by",
     "      samples. Where some reach it the Rust is not asked (docs/DIFFERENCES.md, D3).",
     "  22 W COUNT ATOMSLEN N LISTEDLEN WORD REFUSAL",
@@ -30,9 +30,10 @@ const HEAD: [&str; 26] = [
     "      The rows of COUNT atoms and of N pairs as they are lent, and the target, 16 words each; the answer as in kind 21.",
     "The first lines of kind 21 are over P2's bank, with its whole index and cut ones. After them come banks whose index is",
     "small, whole and cut; rows that are first completed by the last pair of a whole index, and the same without that pair;",
-    "banks of all styles at every width; searches at another width than the bank's, whose words may then reach 2^W2; and of",
-    "some rows the one that is found last. The row is the sum or the xor of two atoms or of an atom and a pair, such a row with",
-    "one word changed (the first, the sixteenth, any), any row, one word throughout, or zero. The limit is at most 500.",
+    "banks of all styles at every width; searches at another width than the bank's, or than the index's too, whose words may",
+    "then reach 2^W3; and of some rows the one that is found last. The row is the sum or the xor of two atoms or of an atom and",
+    "a pair, such a row with one word changed (the first, the sixteenth, any), any row, one word throughout, or zero. The limit",
+    "is at most 500.",
     "In lines of kind 22 a lent array has at most 8,000 numbers.",
     "The first lines of kind 23 are named cases, mostly of rows that are one word sixteen times, in this order: words that",
     "reach 2^W (width 8, atoms 257 and 4, target 5: 4 completes 257 under Xor; a word that reaches 2^W is completed, and never",

@@ -1,4 +1,4 @@
-//! Lines of kind 16: product searches over built banks with indexes of their own, by the specification. The Rust's product
+//! Lines of kind 16: product searches over built banks with their indexes, by the specification. The Rust's product
 //! loop and its layer 1 are held against them as far as docs/DIFFERENCES.md has them alike.
 
 use crate::access::Row;
@@ -22,11 +22,14 @@ const ORDERED: usize = 6;
 /// How often a row is drawn anew for the answer that it is to have.
 const DRAWS: usize = 30;
 
-/// A line for a row searched for.
+/// A line for a row searched for, of an index at the search's width.
 fn line(file: &mut DataFile, searched: &Searched, row: Row) {
-    let setting = &searched.setting;
-    ask_the_rust(setting, row);
-    let (answer, a, b) = match setting.try_everything(&row) {
+    ask_the_rust(&searched.setting, row);
+    answered(file, searched, row);
+}
+
+fn answered(file: &mut DataFile, searched: &Searched, row: Row) {
+    let (answer, a, b) = match searched.setting.try_everything(&row) {
         Answer::Nothing => (0, 0, 0),
         Answer::TwoAtoms(a, b) => (1, a, b),
         Answer::AtomAndPair(a, pair) => (2, a, pair),
@@ -47,6 +50,7 @@ pub fn lines(file: &mut DataFile) {
     sheet(file);
     for input in &known::PRODUCT_LOOP {
         at_search_width(file, input);
+        at_its_own_width(file, input);
     }
     for input in &known::FIRST_STAGE {
         let setting = at_search_width(file, input);
@@ -89,6 +93,15 @@ fn at_search_width(file: &mut DataFile, input: &Input) -> Setting {
     assert_eq!(index.all, index.pairs.len());
     line(file, &searched, input.row());
     searched.setting
+}
+
+/// A line for an input that shows D1, with its index of a greater width than the search's.
+fn at_its_own_width(file: &mut DataFile, input: &Input) {
+    let searched = Searched::with_index(input.bank(), input.index_width, input.width, LIMIT_MAX);
+    let setting = &searched.setting;
+    assert_eq!(setting.try_everything(&input.row()), input.answer);
+    assert_eq!(setting.product_loop(input.row()), input.rust);
+    answered(file, &searched, input.row());
 }
 
 /// The row that is searched for.
