@@ -103,7 +103,11 @@ fn own(inputs: &mut Inputs) -> Lent {
     let width = small_width(inputs);
     let rows = raw_rows(inputs, width);
     let count = inputs.below(OWN_ATOMS + 1);
-    let atoms: Vec<Row> = (0..count).map(|_| inputs.one_of(&rows)).collect();
+    let mut atoms: Vec<Row> = (0..count).map(|_| inputs.one_of(&rows)).collect();
+    if inputs.below(3) == 0 {
+        let place = inputs.below(count + 1) as usize;
+        atoms.insert(place, nought(inputs, width));
+    }
     let mut pairs = indexes::index(&atoms, width, PAIRS_MAX).rows;
     let all = pairs.len();
     if inputs.below(4) == 0 {
@@ -115,6 +119,12 @@ fn own(inputs: &mut Inputs) -> Lent {
         pairs,
         width,
     }
+}
+
+/// A row that is 0 modulo 2^w.
+fn nought(inputs: &mut Inputs, width: u32) -> Row {
+    let multiple = |few: u64| few.checked_shl(width).unwrap_or(0);
+    std::array::from_fn(|_| multiple(inputs.below(3)))
 }
 
 /// Mostly 1 to 4.
@@ -164,8 +174,8 @@ impl Lent {
         spec::try_everything(target, &self.atoms, &self.pairs, self.width)
     }
 
-    /// Compares our answer with the expected one. Over rows below 2^w that is the originals', and trying everything and what the atoms
-    /// give stand beside it.
+    /// Compares our answer with the expected one. Over rows below 2^w that is the originals', and trying everything stands beside it. Where
+    /// "nothing" is certain, what the atoms give stands beside both.
     fn compare(
         &self,
         report: &mut Report,
@@ -176,19 +186,26 @@ impl Lent {
         let input = (self.width, &self.atoms, &self.pairs, target);
         if !self.is_reduced() {
             report.compare(Kind::ResidualTrials, &input, &ours, &Ok(expected));
-            return;
+        } else {
+            report.compare(Kind::ResidualSearch, &input, &ours, &Ok(expected));
+            if self.trials() <= TRIALS {
+                let tried = self.try_everything(target);
+                report.compare(Kind::ResidualTrials, &input, &ours, &Ok(tried));
+            }
         }
-        report.compare(Kind::ResidualSearch, &input, &ours, &Ok(expected));
-        if self.trials() <= TRIALS {
-            let tried = self.try_everything(target);
-            report.compare(Kind::ResidualTrials, &input, &ours, &Ok(tried));
-        }
-        if self.whole && self.atoms.len() <= GIVEN_ATOMS {
+        if self.is_certain() && self.atoms.len() <= GIVEN_ATOMS {
+            report.reach("certain, with raw words", !self.is_reduced());
             let given = spec::is_given(target, &self.atoms, self.width);
             let shown = ours.map(|found| found.map(|shown| self.completes(shown, target)));
             let expected = Ok(given.then_some(true));
             report.compare(Kind::ResidualNothing, &input, &shown, &expected);
         }
+    }
+
+    /// Whether "nothing" is: with a whole index, where the atoms' rows are below 2^w or one of them is 0 modulo 2^w.
+    fn is_certain(&self) -> bool {
+        let is_nought = |row: &Row| row.iter().all(|&word| u128::from(word) % (1 << self.width) == 0);
+        self.whole && (are_reduced(&self.atoms, self.width) || self.atoms.iter().any(is_nought))
     }
 
     /// A sum or an xor of two atoms or of an atom and a pair, sometimes with a bit changed; else a constant, few words, or any.

@@ -170,7 +170,8 @@ pub fn product_search(
 /// then the pairs, by slot; in the order of the search, not the cheapest. A row completes an atom where it is, word for word, the atom's
 /// [`gate_residual`]: the xor, or the sum, of the two modulo 2^w is the target, on whatever rows are lent. That residual is below 2^w: a
 /// lent row that isn't can be completed, and completes none. What is found has the target's words at the points and may differ elsewhere.
-/// "Nothing" is certain only with a whole index of these very atoms at this width, and atoms' rows below 2^w. Refuses 2, 4, 5, 7.
+/// "Nothing" is certain only with a whole index of these very atoms at this width, and where the atoms are a bank build's, or their rows
+/// below 2^w, or one of them 0 modulo 2^w. Refuses 2, 4, 5, 7.
 pub fn residual_search(
     width: u32,
     atoms: Atoms<'_>,

@@ -39,7 +39,8 @@ pub fn row_of<'a>(part: Part, atoms: &'a [Row], pairs: &'a [Row]) -> &'a Row {
 }
 
 /// Whether atoms a, b, c and a gate g give the target as a with b, or as a with (b g c), under either outer gate; there is no
-/// index here. With a whole index something is found exactly then, if the atoms' rows are below 2^width.
+/// index here. With a whole index something is found exactly then, if the atoms' rows are below 2^width, or one of them is 0
+/// modulo 2^width.
 pub fn is_given(target: &Row, atoms: &[Row], width: u32) -> bool {
     let completes = |row: &Row| {
         let mut outer = OUTER_GATES.iter();
