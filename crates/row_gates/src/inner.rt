@@ -3,7 +3,7 @@ use crate::Gate;
 use crate::ROW_WORDS;
 use crate::RowAnswer;
 ghost use mathlib.Core.Path.{_≡_};
-ghost use Prim.Native.Nat.{_≤_};
+ghost use Prim.Native.Nat.{_-_, _^_, _≤_};
 ghost use Rattle.row_gates.specs.Gates.{gateNumber, gateAt, gateOf, gateRow, residualOf, residualRow, sameRow, refusedRow};
 
 // Zeros beside a refusal.
@@ -42,15 +42,24 @@ pub fn gate_number(g: Gate) -> u32
     }
 }
 
+// The mask of the w lowest bits, by a shift down from all ones. `arith::bitmask` makes the same word by a shift up: were it the mask of all gates, LLVM
+// would join their arms in a loop over a row and take the row's first word through a vector register, where all that waits for it waits longer.
+fn low_mask(w: u32) -> u64
+    requires { ⌜ w ≤ 64 ⌝ }
+    ensures { λ r. ⌜ r ≡ 2 ^ w - 1 ⌝ }
+{
+    if w == 0 { 0 } else { u64::MAX >> (64 - w) }
+}
+
 // One place of a gate.
 pub fn gate_apply_lane(a: u64, b: u64, g: Gate, w: u32) -> u64
     requires { ⌜ w ≤ 64 ⌝ }
     ensures { λ r. ⌜ r ≡ gateOf g w a b ⌝ }
 {
     match g {
-        Gate::And => arith::reduce(a & b, w),
-        Gate::Or => arith::reduce(a | b, w),
-        Gate::Xor => arith::reduce(a ^ b, w),
+        Gate::And => (a & b) & low_mask(w),
+        Gate::Or => (a | b) & low_mask(w),
+        Gate::Xor => (a ^ b) & low_mask(w),
         Gate::Add => arith::mod_add(a, b, w),
         Gate::Mul => arith::mod_mul(a, b, w),
     }
