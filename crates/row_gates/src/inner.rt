@@ -42,8 +42,8 @@ pub fn gate_number(g: Gate) -> u32
     }
 }
 
-// The mask of the w lowest bits, by a shift down from all ones. `arith::bitmask` makes the same word by a shift up: were it the mask of all gates, LLVM
-// would join their arms in a loop over a row and take the row's first word through a vector register, where all that waits for it waits longer.
+// The mask of the w lowest bits, by a shift down from all ones. `arith::bitmask` makes the same word by a shift up; were it the mask of all gates, LLVM would
+// join their arms in a loop over a row, and an index build take up to a tenth longer (docs/BENCHMARKS.md).
 fn low_mask(w: u32) -> u64
     requires { ⌜ w ≤ 64 ⌝ }
     ensures { λ r. ⌜ r ≡ 2 ^ w - 1 ⌝ }
