@@ -204,7 +204,10 @@ impl Lent {
 
     /// Whether "nothing" is: with a whole index, where the atoms' rows are below 2^w or one of them is 0 modulo 2^w.
     fn is_certain(&self) -> bool {
-        let is_nought = |row: &Row| row.iter().all(|&word| u128::from(word) % (1 << self.width) == 0);
+        let is_nought = |row: &Row| {
+            row.iter()
+                .all(|&word| u128::from(word) % (1 << self.width) == 0)
+        };
         self.whole && (are_reduced(&self.atoms, self.width) || self.atoms.iter().any(is_nought))
     }
 
