@@ -1,4 +1,4 @@
--- Laws of gates, for every width. What a gate gives is used through these alone. Assumes nothing.
+-- Laws of gates, for every width. What a gate gives is used through these, but where it is computed or is Mul's. Assumes nothing.
 use mathlib.Core.Path.{_≡_, refl, sym, ap, ap₂, _∙_}
 use mathlib.Core.Bool.{true}
 use Prim.Native.Nat.{ℕ, zero, suc, _+_, _-_, _*_, _/_, _%_, _^_, _<_}

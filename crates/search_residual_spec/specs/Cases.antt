@@ -25,12 +25,12 @@ pub record Cases : Type 0 where
   pub least-pair : Finds 1 1 (1 ∷ []) 2 (0 ∷ (0 ∷ [])) 1 (some (Completion.ofPair Xor 0 0))
   -- under Add where nothing completes under Xor
   pub then-add : Finds 2 1 (1 ∷ []) 0 [] 2 (some (Completion.ofAtoms Add 0 0))
-  -- 02, 2.3: Xor's row is reduced, so that an atom that reaches 2^w is completed under Xor too, by a slot before its own too
+  -- 02, 2.3: Xor's row is reduced, so that an atom that reaches 2^w is completed under Xor as well, also by a slot before its own
   pub raw-atom : Finds 2 1 (6 ∷ []) 1 (3 ∷ []) 1 (some (Completion.ofPair Xor 0 0))
   pub slot-before : Finds 1 2 (0 ∷ (3 ∷ [])) 0 [] 1 (some (Completion.ofAtoms Xor 1 0))
   pub from-above : Finds 8 2 (257 ∷ (4 ∷ [])) 0 [] 5 (some (Completion.ofAtoms Xor 0 1))
   -- and a row that reaches 2^w completes nothing, itself neither. 6 xor 6 is 0, and the atom's whole index is one pair of 0 (`PassedOverIsLost` of index_spec):
-  -- so "nothing" asks for bank rows below 2^w
+  -- so over a lent bank without an atom of zeros "nothing" asks for rows below 2^w
   pub raw-part : Finds 2 1 (6 ∷ []) 1 (0 ∷ []) 0 none
   -- rows past the counts don't count
   pub counted : Finds 2 2 (0 ∷ (1 ∷ (3 ∷ []))) 0 (3 ∷ []) 3 none
