@@ -1,6 +1,6 @@
-/* Shortens two formulas at width 8: a product with the row of v0 * v0 + v0 * v1, and, since no product has its row, a sum
-   with that of v0 * v0 + v0 * v1 + v0 * v1 + v1 * v1 + (v0 ^ v1). The calls in their order, with arrays of the sizes that
-   they need. README.md says how it is compiled. */
+/* Shortens two formulas at width 8: the cheapest product with the row of v0 * v0 + v0 * v1, and, since no product has its
+   row, a sum with that of v0 * v0 + v0 * v1 + v0 * v1 + v1 * v1 + (v0 ^ v1), the first that fits. The calls in their order,
+   with arrays of the sizes that they need. README.md says how it is compiled. */
 #include "simjaldek.h"
 #include <stdio.h>
 #include <stdlib.h>
@@ -52,7 +52,7 @@ static void print_found(uint32_t kind, uint32_t gate, uint32_t a, uint32_t b) {
     printf("%c\nthe same values at the sixteen points; elsewhere unknown\n", signs[gate]);
 }
 
-/* looks for a product with the row of the first tokens, and then for an xor or a sum */
+/* looks for the cheapest product with the row of the first tokens, and then for an xor or a sum */
 static void shorten(const uint64_t *points, size_t token_count) {
     struct simjaldek_row_reply target =
         simjaldek_probe(NV, W, points, 96, token_count, ops, TOKENS, operands, TOKENS);
@@ -67,7 +67,8 @@ static void shorten(const uint64_t *points, size_t token_count) {
     refused("build_index", index.refusal);
     printf("atoms %u pairs %u %s\n", (unsigned)bank.a, (unsigned)index.a, index.b == 1 ? "cut" : "whole");
     struct simjaldek_reply product = simjaldek_product_search(
-        W, bank.a, atom_rows, 16 * ATOMS, index.a, pair_rows, 16 * LIMIT, order, LIMIT, target.row, 16);
+        W, bank.a, atom_lengths, ATOMS, atom_ops, 6 * ATOMS, atom_operands, 6 * ATOMS, atom_rows, 16 * ATOMS,
+        index.a, pairs, 3 * LIMIT, pair_rows, 16 * LIMIT, order, LIMIT, target.row, 16);
     refused("product_search", product.refusal);
     if (product.kind != 0) {
         print_found(product.kind, 4, product.a, product.b);

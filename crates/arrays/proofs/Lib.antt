@@ -2,3 +2,4 @@
 pub mod Fill
 pub mod Parts
 pub mod Lists
+pub mod Least

@@ -3,12 +3,13 @@ use mathlib.Core.Path.{_≡_, refl, sym, ap, _∙_}
 use mathlib.Core.Logic.{_⊎_, inl, inr}
 use mathlib.Core.Bool.{Bool, true, false, cond}
 use Prim.Native.Nat.{ℕ, _+_, _<_, max}
-use native.Mathlib.Nat.{add-zero}
+use native.Mathlib.Nat.{add-zero, add-comm, max-comm}
 use native.Mathlib.Decide.{ℕ-discrete}
 use native.Mathlib.Omega.{arith}
 use lib.Dec.{ltb}
 use borrow.Author.Tests.{eq-eqb, ne-eqb, lt-ltb, le-ltb, ltb-true}
-use Rattle.limits.proofs.Refusals.{le-or-lt}
+use Rattle.arrays.proofs.Lists.{bool-cases}
+use Rattle.limits.proofs.Refusals.{le-or-lt, true-not-false}
 use Rattle.expr_cost.specs.declared.Cost.{Cost}
 use Rattle.expr_cost.specs.Cost.{underGate, isBetter}
 
@@ -65,6 +66,15 @@ better-trans c d e h k = by-better c e (better-chain c d e (better-by c d h) (be
 same-cost : (c d : Cost) → c .size ≡ d .size → c .products ≡ d .products → c .depth ≡ d .depth → c ≡ d
 same-cost c d p q r = λ i. record { size = p i; products = q i; depth = r i }
 
+cost-same : (c d : Cost) → Dec (c ≡ d)
+cost-same c d = go (ℕ-discrete (c .size) (d .size)) (ℕ-discrete (c .products) (d .products)) (ℕ-discrete (c .depth) (d .depth))
+  where
+    go : Dec (c .size ≡ d .size) → Dec (c .products ≡ d .products) → Dec (c .depth ≡ d .depth) → Dec (c ≡ d)
+    go (no p) q r = no (λ e. p (ap (λ (x : Cost). x .size) e))
+    go (yes p) (no q) r = no (λ e. q (ap (λ (x : Cost). x .products) e))
+    go (yes p) (yes q) (no r) = no (λ e. r (ap (λ (x : Cost). x .depth) e))
+    go (yes p) (yes q) (yes r) = yes (same-cost c d p q r)
+
 -- of two different costs one is better
 pub better-total : (c d : Cost) → (c ≡ d → ⊥) → (isBetter c d ≡ true) ⊎ (isBetter d c ≡ true)
 better-total c d n = go (ℕ-discrete (c .size) (d .size)) (ℕ-discrete (c .products) (d .products)) (ℕ-discrete (c .depth) (d .depth))
@@ -77,6 +87,34 @@ better-total c d n = go (ℕ-discrete (c .size) (d .size)) (ℕ-discrete (c .pro
     go (yes p) (no q) r = pick _ _ q (λ x. products p x) (λ x. products (sym p) x)
     go (yes p) (yes q) (no r) = pick _ _ r (λ x. depth p q x) (λ x. depth (sym p) (sym q) x)
     go (yes p) (yes q) (yes r) = absurd (n (same-cost c d p q r))
+
+-- what isn't better than something that isn't better isn't better
+pub not-better-trans : (c d e : Cost) → isBetter c d ≡ false → isBetter d e ≡ false → isBetter c e ≡ false
+not-better-trans c d e h k = elim (bool-cases (isBetter c e)) [
+  | inr n ↦ n
+  | inl b ↦ elim (cost-same c d) [
+    | yes q ↦ ap (λ (x : Cost). isBetter x e) q ∙ k
+    | no n ↦ elim (better-total c d n) [
+      | inl y ↦ absurd (true-not-false (sym y ∙ h))
+      | inr y ↦ absurd (true-not-false (sym (better-trans d c e y b) ∙ k))
+    ]
+  ]
+]
+
+-- a greater size is never better
+pub size-not-better : (c d : Cost) → d .size < c .size → isBetter c d ≡ false
+size-not-better c d h = sym (by-size c d (λ e. omega arith)) ∙ le-ltb (c .size) (d .size) (omega arith)
+
+-- a lesser size always is
+pub size-better : (c d : Cost) → c .size < d .size → isBetter c d ≡ true
+size-better c d h = by-better c d (size h)
+
+-- operands may be exchanged
+pub gate-swaps : (n : Bool) (a b : Cost) → underGate n a b ≡ underGate n b a
+gate-swaps n a b = same-cost (underGate n a b) (underGate n b a)
+    (ap (λ (x : ℕ). x + cond n 3 1) (add-comm (a .size) (b .size)))
+    (ap (λ (x : ℕ). x + cond n 1 0) (add-comm (a .products) (b .products)))
+    (ap (λ (x : ℕ). x + 1) (max-comm (a .depth) (b .depth)))
 
 -- ---- a gate's cost, from the deeper operand's depth
 module _ (a b : Cost) (n : Bool) (k : ℕ) (deep : k ≡ max (a .depth) (b .depth)) where

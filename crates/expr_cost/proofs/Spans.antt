@@ -435,6 +435,10 @@ module _ (nv count : ℕ) (ops operands : List ℕ) (h : isFormula nv (tokens co
   pub whole-ends : Ends ops operands count
   whole-ends = subst (λ (n : ℕ). Span ops operands n count) (sym whole-begins) whole-span
 
+  pub whole-info : costBefore ops operands count .info ≡ infoOf (tokens count ops operands)
+  unfolding costBefore spanOf
+  whole-info = ap (λ (n : ℕ). infoOf (spanOf ops operands n count)) whole-begins
+
   pub whole-cost : costBefore ops operands count .info .cost ≡ costOf (tokens count ops operands)
   unfolding costBefore spanOf
   whole-cost = ap (λ (n : ℕ). costOf (spanOf ops operands n count)) whole-begins

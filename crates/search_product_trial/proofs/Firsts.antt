@@ -1,8 +1,9 @@
--- First words of what fits: their product is the target's first word. Assumes nothing.
+-- First words of what fits: their product is the target's first word; and numbers that are passed over. Assumes nothing.
 use mathlib.Core.Path.{_≡_, sym, ap, ap₂, _∙_}
-use mathlib.Core.Bool.{true, false}
+use mathlib.Core.Bool.{Bool, true, false}
 use mathlib.Core.List.{List}
-use Prim.Native.Nat.{ℕ, _+_, _*_, _%_, _^_}
+use Prim.Native.Nat.{ℕ, _+_, _*_, _%_, _^_, _≤_, _<_}
+use native.Mathlib.Decide.{decLt}
 use native.Mathlib.Omega.{arith}
 use lib.ListN.{getD}
 use Rattle.arith.specs.Word.{modulus}
@@ -26,3 +27,10 @@ module _ (w : ℕ) (target xs ys : List ℕ) (a b : ℕ) (ok : Target w target) 
   first-not x y p ex ey e n =
       is-false (fitsAt w target xs a ys b)
       (λ f. n (e ∙ ap₂ (λ (x y : ℕ). (x * y) % modulus w) ex ey ∙ ap (λ (m : ℕ). (firstWord xs a * firstWord ys b) % m) (modulus-is w (ok .width)) ∙ first-product f))
+
+-- ---- numbers that don't pass, from a start on
+pub skip-more : (test : ℕ → Bool) (start b : ℕ) → ((k : ℕ) → start ≤ k → k < b → test k ≡ false) → test b ≡ false → (k : ℕ) → start ≤ k → k < b + 1 → test k ≡ false
+skip-more test start b h e k l m = elim (decLt k b) [
+  | yes before ↦ h k l before
+  | no after ↦ let q : k ≡ b = omega arith in ap test q ∙ e
+]

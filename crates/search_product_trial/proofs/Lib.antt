@@ -1,4 +1,5 @@
 -- The laws of this crate, which the crates above cite too.
 pub mod Trials
 pub mod Firsts
+pub mod Keeping
 pub mod Rounds

@@ -1,6 +1,6 @@
 -- What the contracts of src/inner.rt, and of both stages, cite. Assumes nothing.
 use mathlib.Core.Path.{_≡_}
-use mathlib.Core.Bool.{Bool}
+use mathlib.Core.Bool.{Bool, true, false}
 use mathlib.Core.List.{List}
 use Prim.Native.Nat.{ℕ, _^_, _≤_, _<_}
 use lib.ListN.{length, getD}
@@ -16,3 +16,10 @@ pub record Target (w : ℕ) (target : List ℕ) : Type 0 where
   pub width : w ≤ 64
   pub long : length target ≡ 16
   pub reduced : (j : ℕ) → j < 16 → getD target j 0 < 2 ^ w
+
+-- r is the first number from `start` on that passes the test, n if there is none
+pub record Next (test : ℕ → Bool) (n start r : ℕ) : Type 0 where
+  pub from : start ≤ r
+  pub to : r ≤ n
+  pub skips : (k : ℕ) → start ≤ k → k < r → test k ≡ false
+  pub stops : r < n → test r ≡ true

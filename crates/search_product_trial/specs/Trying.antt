@@ -1,16 +1,21 @@
--- Trying everything, demand 3's measure: no filter, no list of candidates. It is fed the width, both counts, the atoms' and the pairs' rows and
--- the target. Assumes nothing.
+-- Trying everything, demand 3's measure: no filter, no bound, no list of candidates. It is fed the width, both counts, the atoms' and the pairs' rows,
+-- the target, and since 02, 2.4 the atoms' formulas and the pairs' gates and atom slots. Assumes nothing.
 use mathlib.Core.Bool.{Bool, cond}
 use mathlib.Core.List.{List, map, flatMap, _++_}
 use mathlib.Core.Option.{Option}
 use Prim.Native.Nat.{ℕ, _%_, _^_}
 use lib.ListN.{getD}
-use Rattle.arrays.specs.Lists.{countUp, firstThat}
+use Rattle.arrays.specs.Lists.{countUp}
+use Rattle.arrays.specs.Least.{leastThat}
 use Rattle.arrays.specs.Parts.{partAt}
 use Rattle.row_gates.specs.Gates.{gateRow, reducedRow, sameRow}
 use Rattle.row_gates.specs.declared.Gate.the-variants.{Mul}
+use Rattle.expr.specs.declared.Token.{Token}
+use Rattle.expr_cost.specs.declared.Cost.{Cost}
+use Rattle.expr_cost.specs.Cost.{infoOf, costOf, isBetter}
 use Rattle.index_order.specs.Order.{firstWord, orderOf}
 use Rattle.search_equation.specs.Equation.{used}
+use Rattle.search_product_forms.specs.Forms.{Forms, atomForm, pairForm, gated}
 
 -- 01, Product search: a trial fits if all sixteen products of the two rows' words equal the target's words modulo 2^w
 unfoldable pub fits : ℕ → List ℕ → List ℕ → List ℕ → Bool
@@ -43,7 +48,28 @@ unfoldable pub withPairs : ℕ → ℕ → List ℕ → ℕ → List ℕ → Lis
 unfolding flatMap countUp slotsFor
 withPairs w count atoms n listed target = flatMap (λ (a : ℕ). map (Product.ofPair a) (slotsFor w (firstWord atoms a) (getD target 0 0) n listed)) (countUp 0 count)
 
--- 01, Product search: the first trial that fits is the answer, none if no trial does
-unfoldable pub tryEverything : ℕ → ℕ → List ℕ → ℕ → List ℕ → List ℕ → Option Product
-unfolding firstThat fitting withAtoms withPairs
-tryEverything w count atoms n listed target = firstThat (fitting w atoms listed target) (withAtoms count ++ withPairs w count atoms n listed target)
+-- 01, Product search: first the atoms with each other, then with the pairs
+unfoldable pub trialsOf : ℕ → ℕ → List ℕ → ℕ → List ℕ → List ℕ → List Product
+unfolding withAtoms withPairs
+trialsOf w count atoms n listed target = withAtoms count ++ withPairs w count atoms n listed target
+
+-- 02, 2.4: the whole written-out formula: a, b, Mul or a, b, c, gate, Mul
+unfoldable pub productForm : Forms → Product → List Token
+unfolding atomForm pairForm
+productForm f (Product.ofAtoms a b) = gated (atomForm f a) (atomForm f b) Mul
+productForm f (Product.ofPair a s) = gated (atomForm f a) (pairForm f s) Mul
+
+-- 02, 2.4: its cost, worked out from the tokens
+unfoldable pub productCost : Forms → Product → Cost
+unfolding productForm infoOf
+productCost f x = costOf (productForm f x)
+
+-- 02, 2.4: by the cost order
+unfoldable pub cheaper : Forms → Product → Product → Bool
+unfolding productCost isBetter
+cheaper f x y = isBetter (productCost f x) (productCost f y)
+
+-- 02, 2.4: trying everything means keeping the least; among equal costs the earlier in 01's search order, none if no trial fits
+unfoldable pub tryEverything : ℕ → ℕ → List ℕ → ℕ → List ℕ → List ℕ → Forms → Option Product
+unfolding leastThat fitting cheaper trialsOf
+tryEverything w count atoms n listed target f = leastThat (fitting w atoms listed target) (cheaper f) (trialsOf w count atoms n listed target)

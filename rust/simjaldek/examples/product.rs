@@ -1,4 +1,4 @@
-//! Looks for a product with the row of a formula: `cargo run -p simjaldek --example product -- 2 32 'v0 v0 * v0 v1 * +'`.
+//! Looks for the cheapest product with the row of a formula: `cargo run -p simjaldek --example product -- 2 32 'v0 v0 * v0 v1 * +'`.
 
 mod common;
 
@@ -9,6 +9,9 @@ use std::process::ExitCode;
 /// What is told with every refusal.
 pub const USAGE: &str = "usage: product VARIABLES WIDTH FORMULA
 VARIABLES 1 to 6, WIDTH 1 to 64, FORMULA one argument in postfix: product 2 32 'v0 v0 * v0 v1 * +'";
+
+/// What a product is among those that fit.
+const AMONG: &str = "the cheapest product of two atoms, or of an atom and a listed pair, with these values; a shorter formula of another form may exist";
 
 fn main() -> ExitCode {
     common::print(run, USAGE)
@@ -22,8 +25,8 @@ pub fn run(arguments: &[String]) -> Printed {
     let index = Index::build(&bank, PAIRS_MAX)?;
     let head = common::head(&read, &index)?;
     let answer = index.product_for(formula)?;
-    let told = match answer.postfix() {
-        Some(product) => common::found(&points, &read, "product", &product)?,
+    let told = match answer.postfix_and_cost() {
+        Some(product) => common::found(&points, &read, "product", product, AMONG)?,
         None => nothing(answer).to_owned(),
     };
     Ok(head + &told)

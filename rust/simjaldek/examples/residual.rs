@@ -11,6 +11,9 @@ use std::process::ExitCode;
 pub const USAGE: &str = "usage: residual VARIABLES WIDTH FORMULA
 VARIABLES 1 to 6, WIDTH 1 to 64, FORMULA one argument in postfix: residual 2 32 'v0 v0 * v0 v1 ^ +'";
 
+/// What a completion is among those that hit.
+const AMONG: &str = "the first completion found, not the cheapest: a shorter one may exist";
+
 fn main() -> ExitCode {
     common::print(run, USAGE)
 }
@@ -23,8 +26,8 @@ pub fn run(arguments: &[String]) -> Printed {
     let index = Index::build(&bank, PAIRS_MAX)?;
     let head = common::head(&read, &index)?;
     let answer = index.residual_for(formula)?;
-    let told = match answer.postfix() {
-        Some(completion) => common::found(&points, &read, "completion", &completion)?,
+    let told = match answer.postfix_and_cost() {
+        Some(completion) => common::found(&points, &read, "completion", completion, AMONG)?,
         None => nothing(answer).to_owned(),
     };
     Ok(head + &told)

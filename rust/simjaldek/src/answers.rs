@@ -1,10 +1,15 @@
 //! What the searches answer, in the atoms and pairs that they searched.
 
 use crate::formula::operation;
-use crate::{Atom, Completion, FormulaBuf, Gate, Pair, Product};
+use crate::{compute_cost, Atom, Completion, Cost, FormulaBuf, Gate, Pair, Product};
 
-/// What the product search answers, in the atoms and pairs that it searched. Answers are equal within one index; across copies compare
-/// [`slots`](ProductAnswer::slots) or [`postfix`](ProductAnswer::postfix).
+/// The most variables, which the atoms of every bank are formulas over.
+const VARIABLES_MAX: u32 = 6;
+
+/// What the product search answers, in the atoms and pairs that it searched: the cheapest product that has the row, and the first in the
+/// order of the search among equals. A pair that isn't listed is not among them: a cut index lacks some, and of pairs with one row an index
+/// lists the first. Answers are equal within one index; across copies compare [`slots`](ProductAnswer::slots) or
+/// [`postfix`](ProductAnswer::postfix).
 #[derive(Clone, Copy, Debug, PartialEq, Eq)]
 pub enum ProductAnswer<'i> {
     /// Two atoms whose product has the row.
@@ -30,6 +35,16 @@ impl ProductAnswer<'_> {
         }
     }
 
+    /// The cost of the product written out, by which it is the cheapest; none for nothing.
+    pub fn cost(self) -> Option<Cost> {
+        self.postfix_and_cost().map(|(_, cost)| cost)
+    }
+
+    /// The product written out in postfix, ready to load, and its cost; none for nothing.
+    pub fn postfix_and_cost(self) -> Option<(FormulaBuf, Cost)> {
+        self.postfix().map(with_cost)
+    }
+
     /// The answer by slots, as [`lent::product_search`](crate::lent::product_search) has it.
     pub fn slots(self) -> Product {
         match self {
@@ -41,7 +56,7 @@ impl ProductAnswer<'_> {
 }
 
 /// What the residual search answers, in the atoms and pairs that it searched: the outer gate, Xor or Add, the atom that is completed, and
-/// what completes it. Answers are equal within one index; across copies compare [`slots`](CompletionAnswer::slots) or
+/// what completes it; the first in the order of the search, not the cheapest. Answers are equal within one index; across copies compare [`slots`](CompletionAnswer::slots) or
 /// [`postfix`](CompletionAnswer::postfix).
 #[derive(Clone, Copy, Debug, PartialEq, Eq)]
 pub enum CompletionAnswer<'i> {
@@ -69,6 +84,16 @@ impl CompletionAnswer<'_> {
         }
     }
 
+    /// The cost of the xor or sum written out; none for nothing.
+    pub fn cost(self) -> Option<Cost> {
+        self.postfix_and_cost().map(|(_, cost)| cost)
+    }
+
+    /// The xor or sum written out in postfix, and its cost; none for nothing.
+    pub fn postfix_and_cost(self) -> Option<(FormulaBuf, Cost)> {
+        self.postfix().map(with_cost)
+    }
+
     /// The answer by slots, as [`lent::residual_search`](crate::lent::residual_search) has it.
     pub fn slots(self) -> Completion {
         match self {
@@ -89,4 +114,10 @@ fn of_atoms(gate: Gate, a: Atom<'_>, b: Atom<'_>) -> FormulaBuf {
 /// An atom and a pair under a gate.
 fn of_pair(gate: Gate, a: Atom<'_>, pair: Pair<'_>) -> FormulaBuf {
     operation(a.formula(), pair.postfix().as_formula(), gate.token())
+}
+
+/// What is written out, with its cost.
+fn with_cost(formula: FormulaBuf) -> (FormulaBuf, Cost) {
+    let cost = compute_cost(VARIABLES_MAX, formula.as_formula());
+    (formula, cost.expect("atoms under gates are a formula"))
 }

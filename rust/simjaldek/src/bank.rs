@@ -1,6 +1,6 @@
 //! A bank that owns its arrays, and its atoms.
 
-use crate::lent::{self, Atoms, BankArrays};
+use crate::lent::{self, Atoms, BankArrays, WrittenAtoms};
 use crate::{
     AtomSlot, Cost, Formula, FormulaError, Points, Refusal, Row, ATOMS_MAX, ATOM_TOKENS, ROW_WORDS,
 };
@@ -113,8 +113,16 @@ impl Bank {
 
     /// The rows, lent.
     pub fn lend(&self) -> Atoms<'_> {
-        Atoms {
+        self.lend_written().rows()
+    }
+
+    /// The formulas and rows, lent.
+    pub fn lend_written(&self) -> WrittenAtoms<'_> {
+        WrittenAtoms {
             count: self.len(),
+            lengths: &self.lengths,
+            ops: &self.ops,
+            operands: &self.operands,
             rows: &self.rows,
         }
     }

@@ -1,7 +1,7 @@
 //! An index that borrows its bank, its pairs, and the searches over both.
 
 use crate::formula::operation;
-use crate::lent::{self, IndexArrays, Pairs};
+use crate::lent::{self, IndexArrays, Pairs, WrittenPairs};
 use crate::{
     Atom, AtomSlot, Bank, Completion, CompletionAnswer, Formula, FormulaBuf, FormulaError, Gate,
     PairSlot, Product, ProductAnswer, Refusal, Row, PAIRS_MAX, ROW_WORDS,
@@ -144,12 +144,14 @@ impl<'b> Index<'b> {
         self.pair(slot).expect("a listed pair")
     }
 
-    /// The first product of two atoms, else of an atom and a pair, that has this row; in the order of the search, not the cheapest. Refuses 5.
+    /// The cheapest product, of two atoms or of an atom and a listed pair, that has this row: by the cost of the whole formula written out,
+    /// which [`ProductAnswer::cost`] tells; among equals the first in the order of the search. Refuses 5.
     ///
     /// The row must be one of the bank's own points ([`Points::row`](crate::Points::row)): a row of other points is words like any others, and what is
     /// found for it says nothing about the formula that it came from. [`product_for`](Index::product_for) can't go wrong so.
     pub fn product_search(&self, target: &Row) -> Result<ProductAnswer<'_>, Refusal> {
-        let product = lent::product_search(self.width(), self.bank.lend(), self.lend(), target)?;
+        let (atoms, pairs) = (self.bank.lend_written(), self.lend_written());
+        let product = lent::product_search(self.width(), atoms, pairs, target)?;
         Ok(self.of_product(product))
     }
 
@@ -219,8 +221,14 @@ impl<'b> Index<'b> {
 
     /// The rows and the order list, lent.
     pub fn lend(&self) -> Pairs<'_> {
-        Pairs {
+        self.lend_written().ordered()
+    }
+
+    /// Gates, atoms, rows and the order list, lent.
+    pub fn lend_written(&self) -> WrittenPairs<'_> {
+        WrittenPairs {
             count: self.len(),
+            words: &self.pairs,
             rows: &self.rows,
             order: &self.order,
         }

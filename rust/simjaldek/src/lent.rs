@@ -1,8 +1,8 @@
 //! The calls over borrowed slices, for callers with buffers of their own. Every length, count and number may be handed in:
 //! what the table has is refused, and then no buffer has changed. Places beyond the counts stay as they were.
 //!
-//! **Not tested**: that atoms, pairs, points, target and width belong together, that a claimed count is the one that was built, and that
-//! lent rows are below 2^w. Such a call answers for the words that it gets. [`Bank`](crate::Bank) and [`Index`](crate::Index) keep
+//! **Not tested**: that atoms, pairs, points, target and width belong together, that a claimed count is the one that was built, that a
+//! lent row is its formula's or its pair's, and that it is below 2^w. Such a call answers for the words that it gets. [`Bank`](crate::Bank) and [`Index`](crate::Index) keep
 //! together what belongs together.
 //!
 //! A gate's number is 0 And, 1 Or, 2 Xor, 3 Add, 4 Mul; these are not the opcodes of tokens (2 Add, 3 Mul, 4 And, 5 Or, 6 Xor).
@@ -52,6 +52,55 @@ impl<'a> Pairs<'a> {
         PairRows {
             count: self.count,
             rows: self.rows,
+        }
+    }
+}
+
+/// What a product search reads of a bank: `count` atoms, each with its formula and its row.
+#[derive(Clone, Copy, Debug)]
+pub struct WrittenAtoms<'a> {
+    /// How many atoms are claimed.
+    pub count: usize,
+    /// How many tokens each formula has, 1 to 6.
+    pub lengths: &'a [u32],
+    /// 6 opcodes for each atom; those past its length are not read.
+    pub ops: &'a [u8],
+    /// 6 operands for each atom; those past its length are not read.
+    pub operands: &'a [u64],
+    /// Their rows, one after the other.
+    pub rows: &'a [u64],
+}
+
+impl<'a> WrittenAtoms<'a> {
+    /// The same atoms without their formulas.
+    pub fn rows(self) -> Atoms<'a> {
+        Atoms {
+            count: self.count,
+            rows: self.rows,
+        }
+    }
+}
+
+/// What a product search reads of an index: `count` pairs, each with its gate, its atoms and its row, and their order list.
+#[derive(Clone, Copy, Debug)]
+pub struct WrittenPairs<'a> {
+    /// How many pairs are claimed.
+    pub count: usize,
+    /// Gate, b and c of each pair.
+    pub words: &'a [u32],
+    /// Their rows, one after the other.
+    pub rows: &'a [u64],
+    /// All pair slots, ascending by (first row word, slot).
+    pub order: &'a [u32],
+}
+
+impl<'a> WrittenPairs<'a> {
+    /// The same pairs without their gates and atoms.
+    pub fn ordered(self) -> Pairs<'a> {
+        Pairs {
+            count: self.count,
+            rows: self.rows,
+            order: self.order,
         }
     }
 }
@@ -132,13 +181,15 @@ fn unless_refused<T>(refusal: u32, answer: T) -> Result<T, Refusal> {
     }
 }
 
-/// The first product of two atoms, else of an atom and a pair, that is the target; in the order of the search, not the cheapest. It has the target's
-/// words at the points and may differ elsewhere. "Nothing" is certain only with a whole index of these very atoms at this width.
-/// Refuses 2, 4, 5, 7, 8.
+/// The cheapest product, of two atoms or of an atom and a pair, that is the target: by the cost of the whole formula written out, and the
+/// first in the order of the search among equals (two atoms before an atom and a pair). Whether a product fits goes by the rows, what it
+/// costs by the formulas, gates and atom slots, as they are lent. It has the target's words at the points and may differ elsewhere. "Nothing"
+/// is certain only with a whole index of these very atoms at this width. Refuses 2, 4, 5, 6 for an atom of 0 or over 6 tokens or whose
+/// tokens are no formula over six variables, 7 also for a pair with a gate above 4 or an atom slot not below the count, 8.
 pub fn product_search(
     width: u32,
-    atoms: Atoms<'_>,
-    pairs: Pairs<'_>,
+    atoms: WrittenAtoms<'_>,
+    pairs: WrittenPairs<'_>,
     target: &[u64],
 ) -> Result<Product, Refusal> {
     // SAFETY: each pointer comes with its own slice's length; the function reads within these lengths and keeps no pointer.
@@ -146,9 +197,17 @@ pub fn product_search(
         ffi::simjaldek_product_search(
             width,
             atoms.count,
+            atoms.lengths.as_ptr(),
+            atoms.lengths.len(),
+            atoms.ops.as_ptr(),
+            atoms.ops.len(),
+            atoms.operands.as_ptr(),
+            atoms.operands.len(),
             atoms.rows.as_ptr(),
             atoms.rows.len(),
             pairs.count,
+            pairs.words.as_ptr(),
+            pairs.words.len(),
             pairs.rows.as_ptr(),
             pairs.rows.len(),
             pairs.order.as_ptr(),

@@ -17,9 +17,10 @@ pub enum Refusal {
     ShortArray,
     /// 5: a point, target or row word, p or t is not below 2^w.
     Word,
-    /// 6: not a formula of 1 to 64 tokens over the variables, not a gate's number, or not a token limit of 1 to 64.
+    /// 6: not a formula of 1 to 64 tokens over the variables (an atom of a product search: 1 to 6 tokens, six variables), not a gate's
+    /// number, or not a token limit of 1 to 64.
     Formula,
-    /// 7: more atoms or pairs are claimed than there can be, or an atom slot is not below its count.
+    /// 7: more atoms or pairs are claimed than there can be, an atom slot is not below its count, or a pair's gate is above 4.
     Count,
     /// 8: the order list is not the one of the pairs' rows.
     OrderList,
@@ -74,13 +75,13 @@ impl fmt::Display for Refusal {
             }
             Refusal::Word => "a point, target or row word, p or t not below 2^w",
             Refusal::Formula => {
-                "formula of 0 or over 64 tokens, unknown opcode, nonzero unused operand, \
+                "formula of 0 or over 64 tokens (of an atom over 6), unknown opcode, nonzero unused operand, \
                  variable not below the count, operand missing, or not exactly one value left; \
                  or not a gate's number, 0 to 4; or not a token limit, 1 to 64"
             }
             Refusal::Count => {
                 "more than 479 atoms or 262,144 pairs claimed, \
-                 or an atom slot handed in that is not below its count"
+                 or an atom slot handed in that is not below its count, or a pair's gate above 4"
             }
             Refusal::OrderList => "the order list isn't the one of the rows",
             Refusal::Text => "the text isn't the unsigned decimals that are asked for",

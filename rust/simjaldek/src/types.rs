@@ -102,7 +102,8 @@ impl fmt::Display for Cost {
     }
 }
 
-/// What the product search over lent arrays answers, by slots; [`ProductAnswer`](crate::ProductAnswer) has the atoms and the pair.
+/// What the product search over lent arrays answers, by slots: the cheapest product that is the target, and the first in the order of the
+/// search among equals. [`ProductAnswer`](crate::ProductAnswer) has the atoms and the pair.
 #[derive(Clone, Copy, Debug, PartialEq, Eq)]
 pub enum Product {
     /// Two atoms whose product is the target.

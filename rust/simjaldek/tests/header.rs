@@ -19,18 +19,20 @@ const HEAD: &str = "/* The static library of Simjaldek, for C programs; docs/CAL
    Made from the exports of crates/simjaldek and crates/simjaldek_abi by rust/simjaldek/tests/header.rs.
 
    What an answer means: a product, or a completion by xor or sum, has the target's words at the sixteen points and may
-   differ elsewhere, so compare the formulas beyond the points; it is the first that fits, not the cheapest. \"Nothing\" is
-   certain only with a whole index of these very atoms at this width, for completions only where a bank build left the atoms,
-   or their rows are below 2^w, or one of them is 0 modulo 2^w. That arrays, counts and widths belong together is not tested.
+   differ elsewhere, so compare the formulas beyond the points. A product is the cheapest of those that fit, by the cost of the
+   whole formula written out, and among equals the first in the order of the search; a completion is the first that fits, not
+   the cheapest. \"Nothing\" is certain only with a whole index of these very atoms at this width, for completions only where a
+   bank build left the atoms, or their rows are below 2^w, or one of them is 0 modulo 2^w. That arrays, counts and widths belong
+   together is not tested.
 
    Opcodes: 0 constant, 1 variable, 2 Add, 3 Mul, 4 And, 5 Or, 6 Xor, 7 Not, 8 Neg. Gates have numbers of their own: 0 And,
    1 Or, 2 Xor, 3 Add, 4 Mul.
 
    An array goes as its first element's address and its length. An array that is written must not overlap another.
    `refusal`, where a reply has it, is 0 for an answer, else why there is none: 1 variable count, 2 width, 3 limit, 4 array
-   too short, 5 word not below 2^w, 6 no formula, no gate or no token limit, 7 too many atoms or pairs or a slot past the
-   count, 8 order list. Beside a refusal no array was written, and the rest of the reply is zeros, but for a state that was
-   handed in: it is as it was. */
+   too short, 5 word not below 2^w, 6 no formula, no gate or no token limit, 7 too many atoms or pairs, a slot past the count
+   or a pair's gate above 4, 8 order list. Beside a refusal no array was written, and the rest of the reply is zeros, but for a
+   state that was handed in: it is as it was. */
 #ifndef SIMJALDEK_H
 #define SIMJALDEK_H
 

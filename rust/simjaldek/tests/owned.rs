@@ -5,8 +5,8 @@ mod common;
 use common::{one_variable, p2, repeated, IndexBuffers};
 use simjaldek::lent::{self, Built};
 use simjaldek::{
-    splitmix64, Atom, Bank, Completion, CompletionAnswer, FormulaBuf, Gate, Index, Pair, PairSlot,
-    Points, Product, ProductAnswer, Row, Token, PAIRS_MAX,
+    compute_cost, splitmix64, Atom, Bank, Completion, CompletionAnswer, FormulaBuf, Gate, Index,
+    Pair, PairSlot, Points, Product, ProductAnswer, Row, Token, PAIRS_MAX,
 };
 
 fn parsed(text: &str) -> FormulaBuf {
@@ -42,7 +42,7 @@ fn index_of_another_width() {
     let missed = |pair: Pair<'_>| {
         let found = index.product_search(pair.row()).unwrap();
         assert_ne!(found.slots(), Product::Nothing);
-        let mixed = lent::product_search(3, bank.lend(), narrow.pairs(pairs), pair.row());
+        let mixed = lent::product_search(3, bank.lend_written(), narrow.written(pairs), pair.row());
         mixed == Ok(Product::Nothing)
     };
     assert!(index.pairs().any(missed));
@@ -115,6 +115,9 @@ fn products_written_out() {
         let answer = ProductAnswer::AtomPair(atoms[4], pair);
         let product = answer.postfix().expect("a product");
         assert_eq!(product.to_string(), format!("{} {text} *", atoms[4]));
+        let cost = compute_cost(1, product.as_formula()).expect("a formula");
+        assert_eq!(answer.cost(), Some(cost));
+        assert_eq!(answer.postfix_and_cost(), Some((product, cost)));
         let slots = Product::AtomPair(atoms[4].slot(), pair.slot());
         assert_eq!(answer.slots(), slots);
     }
@@ -134,6 +137,9 @@ fn completions_written_out() {
             let answer = CompletionAnswer::AtomPair(gate, atoms[4], pair);
             let completion = answer.postfix().expect("a completion");
             assert_eq!(completion.to_string(), format!("v0 {pair} {sign}"));
+            let cost = compute_cost(1, completion.as_formula()).expect("a formula");
+            assert_eq!(answer.cost(), Some(cost));
+            assert_eq!(answer.postfix_and_cost(), Some((completion, cost)));
             let slots = Completion::AtomPair(gate, atoms[4].slot(), pair.slot());
             assert_eq!(answer.slots(), slots);
         }
@@ -183,7 +189,7 @@ fn nothing_and_how_certain() {
                 certain: limit >= 36
             }
         );
-        assert_eq!(answer.postfix(), None);
+        assert_eq!((answer.postfix(), answer.cost()), (None, None));
     }
     let target = repeated(&[0, 1, 0, 0]);
     for limit in [0, 35, 36, 37] {
@@ -195,8 +201,8 @@ fn nothing_and_how_certain() {
                 certain: limit >= 36
             }
         );
-        let none = (answer.postfix(), answer.slots());
-        assert_eq!(none, (None, Completion::Nothing));
+        let none = (answer.postfix(), answer.cost(), answer.slots());
+        assert_eq!(none, (None, None, Completion::Nothing));
     }
     // what a cut index lacks is missed
     let (whole, cut) = (

@@ -2,7 +2,7 @@
 
 mod common;
 
-use common::{repeated, IndexBuffers};
+use common::{repeated, IndexBuffers, OwnAtoms};
 use simjaldek::lent::{self, Atoms, Built};
 use simjaldek::{bitmask, gate_apply, gate_matches, gate_residual, splitmix64, Gate, Product, Row};
 use std::collections::HashSet;
@@ -179,8 +179,9 @@ fn products(width: u32, atoms: &[Row]) -> HashSet<Row> {
 fn nothing_exactly(width: u32, atoms: &[Row], targets: &[Row], counts: &mut [usize; 2]) {
     let (index, count) = whole_index(width, atoms);
     let products = products(width, atoms);
+    let own = OwnAtoms::of_rows(atoms);
     for target in targets {
-        let found = lent::product_search(width, lend(atoms), index.pairs(count), target);
+        let found = lent::product_search(width, own.lend(), index.written(count), target);
         let nothing = found == Ok(Product::Nothing);
         assert_eq!(
             nothing,

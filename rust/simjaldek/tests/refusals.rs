@@ -2,9 +2,13 @@
 
 mod common;
 
-use common::{one_variable, p2, BankBuffers, IndexBuffers, FILL, FILL_U32, FILL_U64};
-use simjaldek::lent::{self, Atoms, Built, PairRows, Pairs, Tokens};
-use simjaldek::{AtomSlot, Bank, Index, Load, Points, Product, Refusal, ATOMS_MAX, PAIRS_MAX};
+use common::{
+    one_variable, p2, BankBuffers, IndexBuffers, OwnAtoms, OwnPairs, FILL, FILL_U32, FILL_U64,
+};
+use simjaldek::lent::{self, Atoms, Built, PairRows, Pairs, Tokens, WrittenAtoms, WrittenPairs};
+use simjaldek::{
+    AtomSlot, Bank, Gate, Index, Load, PairSlot, Points, Product, Refusal, ATOMS_MAX, PAIRS_MAX,
+};
 
 const P2_POINTS: [u64; 4] = [0, 1, 2, 3];
 
@@ -232,7 +236,6 @@ fn too_many_pairs() {
         count: 0,
         rows: &[],
     };
-    assert_eq!(number(lent::product_search(2, none, pairs, &[0; 16])), 7);
     let asked = |pairs, target: &[u64]| number(lent::residual_search(2, none, pairs, target));
     let pairs = pairs.unordered();
     assert_eq!(asked(pairs, &[0; 16]), 7);
@@ -250,33 +253,6 @@ fn search_refusals() {
     assert_eq!(number(index.product_search(&[4; 16])), 5);
     assert_eq!(number(index.candidates(4, 0)), 5);
     assert_eq!(number(index.candidates(0, 4)), 5);
-    let (atoms, pairs, zeros) = (bank.lend(), index.lend(), [0; 16]);
-    let asked =
-        |w, atoms, pairs, target: &[u64]| number(lent::product_search(w, atoms, pairs, target));
-    assert_eq!(asked(2, atoms, pairs, &zeros), 0);
-    assert_eq!(asked(0, atoms, pairs, &[]), 2);
-    assert_eq!(asked(65, atoms, pairs, &[]), 2);
-    assert_eq!(asked(2, atoms, pairs, &zeros[..15]), 4);
-    for count in [15, usize::MAX] {
-        assert_eq!(asked(2, Atoms { count, ..atoms }, pairs, &zeros), 4);
-    }
-    for count in [37, usize::MAX] {
-        assert_eq!(asked(2, atoms, Pairs { count, ..pairs }, &zeros), 4);
-    }
-    assert_eq!(asked(2, atoms, pairs, &[4; 16]), 5);
-    let rows = vec![0; 16 * (ATOMS_MAX + 1)];
-    let many = Atoms {
-        count: ATOMS_MAX + 1,
-        rows: &rows,
-    };
-    assert_eq!(asked(2, many, pairs, &zeros), 7);
-    let mut order = pairs.order.to_vec();
-    order.swap(0, 1);
-    let wrong = Pairs {
-        order: &order,
-        ..pairs
-    };
-    assert_eq!(asked(2, atoms, wrong, &zeros), 8);
 }
 
 #[test]
@@ -343,22 +319,279 @@ fn residual_faults_at_once() {
     assert_eq!(asked(2, many, none, &[3; 16]), 7);
 }
 
+// ---- the product search
+
+/// What a product search is handed: two atoms and two pairs are claimed, of arrays that have more.
+#[derive(Clone)]
+struct Handed {
+    width: u32,
+    atom_count: usize,
+    atoms: OwnAtoms,
+    pair_count: usize,
+    pairs: OwnPairs,
+    target: Vec<u64>,
+}
+
+impl Handed {
+    /// What is not refused. Atom 1 has six tokens, with the greatest variable; pair 0 is of the atoms 1 and 0 in this order. What is past
+    /// the counts but for another 478 good atoms would be refused.
+    fn good() -> Self {
+        let mut atoms = vec![("v0", [1; 16]); ATOMS_MAX + 1];
+        atoms[1] = ("v5 c9 * ! v0 ^", [6; 16]);
+        let mut own = OwnAtoms::new(&atoms);
+        own.push(&"v6 +".parse().unwrap(), &[1; 16]);
+        let gates = [(Gate::Mul, 1, 0, [3; 16]), (Gate::And, 0, 1, [2; 16])];
+        let mut pairs = OwnPairs::new(&gates);
+        pairs.words.extend([5, 9, 9]);
+        pairs.rows.extend([0; 16]);
+        pairs.order.push(0);
+        Handed {
+            width: 2,
+            atom_count: 2,
+            atoms: own,
+            pair_count: 2,
+            pairs,
+            target: vec![3; 16],
+        }
+    }
+
+    fn search(&self) -> Result<Product, Refusal> {
+        let atoms = WrittenAtoms {
+            count: self.atom_count,
+            ..self.atoms.lend()
+        };
+        let pairs = WrittenPairs {
+            count: self.pair_count,
+            ..self.pairs.lend()
+        };
+        lent::product_search(self.width, atoms, pairs, &self.target)
+    }
+
+    /// The tokens of atom 1.
+    fn tokens(&mut self, length: u32, ops: [u8; 6], operands: [u64; 6]) {
+        self.atoms.lengths[1] = length;
+        self.atoms.ops[6..12].copy_from_slice(&ops);
+        self.atoms.operands[6..12].copy_from_slice(&operands);
+    }
+}
+
+/// A refusal's number and what brings it about.
+type Fault = (u32, fn(&mut Handed));
+
+/// By falling number, so that what is too short can be made by the count that is claimed.
+const FAULTS: [Fault; 43] = [
+    (8, |h| h.pairs.order.swap(0, 1)),
+    (8, |h| h.pairs.order[0] = 0),
+    (8, |h| h.pairs.order[1] = 2),
+    (8, |h| h.pairs.order[1] = u32::MAX),
+    (8, |h| h.pairs.rows[0] = 1),
+    (7, |h| h.atom_count = ATOMS_MAX + 1),
+    (7, |h| h.pairs.words[0] = 5),
+    (7, |h| h.pairs.words[3] = u32::MAX),
+    (7, |h| h.pairs.words[1] = h.atom_count as u32),
+    (7, |h| h.pairs.words[2] = h.atom_count as u32),
+    (7, |h| h.pairs.words[4] = u32::MAX),
+    (7, |h| h.pairs.words[5] = 1 << 31),
+    (7, |h| h.pair_count = 3),
+    (6, |h| h.atoms.lengths[0] = 0),
+    (6, |h| h.atoms.lengths[1] = 0),
+    (6, |h| h.atoms.lengths[1] = u32::MAX),
+    // seven tokens of which the last is the next atom's, and a formula
+    (6, |h| {
+        h.tokens(7, [1, 7, 7, 7, 7, 7], [0; 6]);
+        h.atoms.ops[12] = 7;
+    }),
+    // an unknown opcode
+    (6, |h| h.tokens(1, [9; 6], [0; 6])),
+    (6, |h| h.tokens(2, [1, 255, 9, 9, 9, 9], [0; 6])),
+    // variable 6
+    (6, |h| h.tokens(1, [1; 6], [6; 6])),
+    (6, |h| h.tokens(3, [1, 1, 2, 9, 9, 9], [0, 6, 0, 9, 9, 9])),
+    // a nonzero operand that is not used
+    (6, |h| h.tokens(2, [1, 7, 9, 9, 9, 9], [0, 1, 9, 9, 9, 9])),
+    (6, |h| h.tokens(3, [1, 1, 3, 9, 9, 9], [0, 0, 1, 9, 9, 9])),
+    // operands missing
+    (6, |h| h.tokens(2, [1, 2, 9, 9, 9, 9], [0; 6])),
+    (6, |h| h.tokens(1, [8; 6], [0; 6])),
+    (6, |h| h.tokens(5, [1, 4, 1, 1, 2, 9], [0; 6])),
+    // more values than one left
+    (6, |h| h.tokens(2, [0, 0, 9, 9, 9, 9], [0; 6])),
+    (6, |h| h.tokens(6, [1; 6], [0; 6])),
+    (5, |h| h.target[0] = 4),
+    (5, |h| h.target[15] = u64::MAX),
+    (4, |h| h.atoms.lengths.truncate(h.atom_count - 1)),
+    (4, |h| h.atoms.ops.truncate(6 * h.atom_count - 1)),
+    (4, |h| h.atoms.operands.truncate(6 * h.atom_count - 1)),
+    (4, |h| h.atoms.rows.truncate(16 * h.atom_count - 1)),
+    (4, |h| h.pairs.words.truncate(3 * h.pair_count - 1)),
+    (4, |h| h.pairs.rows.truncate(16 * h.pair_count - 1)),
+    (4, |h| h.pairs.order.truncate(h.pair_count - 1)),
+    (4, |h| h.target.truncate(15)),
+    (4, |h| h.atom_count = usize::MAX),
+    (4, |h| h.pair_count = usize::MAX),
+    (2, |h| h.width = 0),
+    (2, |h| h.width = 65),
+    (2, |h| h.width = u32::MAX),
+];
+
+#[test]
+fn product_refusals() {
+    let shown = Product::AtomPair(AtomSlot(0), PairSlot(0));
+    assert_eq!(Handed::good().search(), Ok(shown));
+    for (place, (refused, fault)) in FAULTS.iter().enumerate() {
+        let mut handed = Handed::good();
+        fault(&mut handed);
+        assert_eq!(number(handed.search()), *refused, "fault {place}");
+    }
+}
+
+/// The least number counts: two faults of different numbers.
+#[test]
+fn product_faults_at_once() {
+    for (place, (greater, first)) in FAULTS.iter().enumerate() {
+        for (least, second) in FAULTS.iter().filter(|(least, _)| least < greater) {
+            let mut handed = Handed::good();
+            first(&mut handed);
+            second(&mut handed);
+            assert_eq!(number(handed.search()), *least, "fault {place}, {least}");
+        }
+    }
+}
+
+/// All of them at once, and one number less after the other.
+#[test]
+fn product_faults_of_every_number() {
+    let mut handed = Handed::good();
+    for number_left in [8, 7, 6, 5, 4, 2] {
+        let of_number = |(number, _): &&Fault| *number == number_left;
+        let (_, fault) = FAULTS.iter().find(of_number).expect("it has a fault");
+        fault(&mut handed);
+        assert_eq!(number(handed.search()), number_left);
+    }
+}
+
+/// 479 atoms are not too many, 480 are, and in 479 places they are no 480.
+#[test]
+fn as_many_atoms_as_there_can_be() {
+    let mut handed = Handed::good();
+    handed.atom_count = ATOMS_MAX;
+    handed.pairs.words[1] = ATOMS_MAX as u32 - 1;
+    assert_eq!(number(handed.search()), 0);
+    handed.pairs.words[1] = ATOMS_MAX as u32;
+    assert_eq!(number(handed.search()), 7);
+    handed.atom_count = ATOMS_MAX + 1;
+    assert_eq!(number(handed.search()), 7);
+    for bad in [0, 1, 477, 478, 479] {
+        let mut handed = handed.clone();
+        handed.atoms.operands[6 * bad] = 6;
+        assert_eq!(number(handed.search()), 6, "atom {bad}");
+    }
+    handed.atoms.lengths[0] = 0;
+    let cut: [fn(&mut OwnAtoms); 4] = [
+        |atoms| atoms.lengths.truncate(ATOMS_MAX),
+        |atoms| atoms.ops.truncate(6 * ATOMS_MAX),
+        |atoms| atoms.operands.truncate(6 * ATOMS_MAX),
+        |atoms| atoms.rows.truncate(16 * ATOMS_MAX),
+    ];
+    for cut in cut {
+        let mut handed = handed.clone();
+        cut(&mut handed.atoms);
+        assert_eq!(number(handed.search()), 4);
+    }
+}
+
+/// A bad formula among a million claimed atoms is 6, and without it there are too many.
+#[test]
+fn a_million_atoms() {
+    const MILLION: usize = 1_000_000;
+    let mut handed = Handed::good();
+    handed.atom_count = MILLION;
+    handed.atoms = OwnAtoms {
+        lengths: vec![1; MILLION],
+        ops: vec![0; 6 * MILLION],
+        operands: vec![0; 6 * MILLION],
+        rows: vec![0; 16 * MILLION],
+    };
+    assert_eq!(number(handed.search()), 7);
+    for bad in [0, 478, 479, 480, 65_536, MILLION - 1] {
+        for length in [0, 2, 7] {
+            handed.atoms.lengths[bad] = length;
+            assert_eq!(number(handed.search()), 6, "atom {bad}");
+        }
+        handed.atoms.lengths[bad] = 1;
+    }
+    handed.pair_count = usize::MAX;
+    handed.atoms.lengths[MILLION - 1] = 0;
+    assert_eq!(number(handed.search()), 4);
+}
+
+/// Counts whose products with 3, 6 and 16 are few modulo 2^64.
+#[test]
+fn counts_that_wrap() {
+    for per_entry in [3, 6, 16] {
+        let count = usize::MAX / per_entry + 1;
+        assert!(count.wrapping_mul(per_entry) < per_entry);
+        let mut handed = Handed::good();
+        handed.atom_count = count;
+        assert_eq!(number(handed.search()), 4);
+        let mut handed = Handed::good();
+        handed.pair_count = count;
+        assert_eq!(number(handed.search()), 4);
+    }
+}
+
+/// Every claimed pair is looked at, and one more than there can be is too many.
+#[test]
+fn as_many_pairs_as_there_can_be() {
+    let count = PAIRS_MAX + 1;
+    let mut handed = Handed::good();
+    handed.pairs = OwnPairs {
+        words: vec![0; 3 * count],
+        rows: vec![1; 16 * count],
+        order: (0..count as u32).collect(),
+    };
+    handed.pair_count = count;
+    assert_eq!(number(handed.search()), 7);
+    handed.pair_count = PAIRS_MAX;
+    assert_eq!(handed.search(), Ok(Product::Nothing));
+    for (place, word) in [(0, 5), (1, 2), (2, 2)] {
+        let place = 3 * (PAIRS_MAX - 1) + place;
+        handed.pairs.words[place] = word;
+        assert_eq!(number(handed.search()), 7);
+        handed.pairs.words[place] = 0;
+    }
+    handed.pairs.order.swap(PAIRS_MAX - 2, PAIRS_MAX - 1);
+    assert_eq!(number(handed.search()), 8);
+    handed.pair_count = count;
+    assert_eq!(number(handed.search()), 7);
+}
+
+/// With no atom no pair can be claimed.
+#[test]
+fn pairs_of_no_atoms() {
+    let mut handed = Handed::good();
+    handed.atom_count = 0;
+    assert_eq!(number(handed.search()), 7);
+    handed.pair_count = 0;
+    assert_eq!(handed.search(), Ok(Product::Nothing));
+}
+
+/// What lies past the claimed counts is not searched either, nor a target's words past the sixteenth.
 #[test]
 fn search_over_fewer_than_lent() {
     let bank = p2();
-    let atoms = Atoms {
+    let atoms = WrittenAtoms {
         count: 1,
-        ..bank.lend()
+        ..bank.lend_written()
     };
-    let pairs = Pairs {
-        count: 0,
-        rows: &[],
-        order: &[],
+    let pairs = OwnPairs::default();
+    let asked = |word: u64| {
+        let target = [vec![word; 16], vec![u64::MAX; 3]].concat();
+        lent::product_search(2, atoms, pairs.lend(), &target)
     };
-    let asked = |target: [u64; 16]| lent::product_search(2, atoms, pairs, &target);
-    assert_eq!(asked([1; 16]), Ok(Product::Nothing));
+    assert_eq!(asked(1), Ok(Product::Nothing));
     let zero_twice = Product::Atoms(AtomSlot(0), AtomSlot(0));
-    assert_eq!(asked([0; 16]), Ok(zero_twice));
+    assert_eq!(asked(0), Ok(zero_twice));
 }
 
 // ---- rows of a bank

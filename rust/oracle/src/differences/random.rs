@@ -2,7 +2,7 @@
 
 use crate::access::{self, AtomView, Formula, Row};
 
-use super::{joined, Setting, PAIRS_MAX};
+use super::{Setting, PAIRS_MAX};
 use crate::inputs::Inputs;
 use crate::spec::formulas::{self as spec, GATE_OPS, MUL, VARIABLE};
 use crate::spec::product;
@@ -23,6 +23,7 @@ struct Tally {
     found: usize,
     candidates: usize,
     first_stages: usize,
+    least: usize,
     layer1: usize,
     layer2: usize,
 }
@@ -44,9 +45,9 @@ pub fn print() {
         tally.banks, tally.atoms, tally.pairs
     );
     println!(
-        "  {} product loops as trying everything says ({} found something); {} lists of candidates; {} first stages alike in \
-         whether two atoms fit",
-        tally.searches, tally.found, tally.candidates, tally.first_stages
+        "  {} product loops find the first atom and pair that fit ({} found something); {} lists of candidates; {} first stages keep the \
+         cheapest two atoms; {} times both, each to its end, the cheapest product",
+        tally.searches, tally.found, tally.candidates, tally.first_stages, tally.least
     );
     println!(
         "  the original layers 1 and 2 themselves: {} and {} answers that are products or nothing, all as two_atoms and \
@@ -74,6 +75,7 @@ fn compare(inputs: &mut Inputs, tally: &mut Tally, num_vars: u32, limit: usize) 
         let target = random_target(inputs, &setting);
         check_second_stage(tally, &setting, target);
         check_first_stage(tally, &setting, target);
+        check_least(tally, &setting, target);
         check_candidates(tally, inputs, &setting, target[0]);
     }
 }
@@ -158,37 +160,37 @@ fn first_words(rows: &[Row]) -> Vec<u64> {
 }
 
 fn check_second_stage(tally: &mut Tally, setting: &Setting, target: Row) {
+    let written = setting.written();
     let found = setting.product_loop(target);
-    assert_eq!(found, setting.second_stage(&target));
+    assert_eq!(found, written.first_pair(&target));
     tally.searches += 1;
     tally.found += usize::from(found.is_some());
     let whole = access::layer2(target, &setting.atoms, &setting.index, setting.width);
     if is_product_or_none(&whole) {
-        let product = found.map(|(atom, pair)| {
-            let [gate, b, c] = setting.index.pairs[pair];
-            let formulas = [b, c].map(|slot| &setting.atoms[slot].formula);
-            let inner = joined(formulas[0], formulas[1], GATE_OPS[gate]);
-            joined(&setting.atoms[atom].formula, &inner, MUL)
-        });
-        assert_eq!(whole, product);
+        assert_eq!(whole, found.map(|trial| written.written_out(trial)));
         tally.layer2 += 1;
     }
 }
 
 fn check_first_stage(tally: &mut Tally, setting: &Setting, target: Row) {
+    let written = setting.written();
     let chosen = setting.two_atoms(target);
-    let first = product::first_stage(&target, &setting.rows, setting.width);
-    assert_eq!(chosen.is_some(), first.is_some());
+    assert_eq!(chosen, written.least_two_atoms(&target));
     tally.first_stages += 1;
     let whole = access::layer1(target, &setting.atoms, setting.width);
     if is_product_or_none(&whole) {
-        let product = chosen.map(|(a, b)| {
-            let formulas = [a, b].map(|slot| &setting.atoms[slot].formula);
-            joined(formulas[0], formulas[1], MUL)
-        });
-        assert_eq!(whole, product);
+        assert_eq!(whole, chosen.map(|trial| written.written_out(trial)));
         tally.layer1 += 1;
     }
+}
+
+/// The Rust's two loops, each to its end, keep what trying everything keeps, and something exactly if anything fits.
+fn check_least(tally: &mut Tally, setting: &Setting, target: Row) {
+    let least = setting.least_product(target);
+    assert_eq!(least, setting.try_everything(&target));
+    let fits = product::anything_fits(&target, &setting.rows, &setting.index.rows, setting.width);
+    assert_eq!(least.is_some(), fits);
+    tally.least += 1;
 }
 
 fn check_candidates(tally: &mut Tally, inputs: &mut Inputs, setting: &Setting, t: u64) {

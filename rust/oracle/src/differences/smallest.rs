@@ -2,17 +2,17 @@
 //!
 //! A space need not hold every order of the points: a row's words stand apart from one another but for the first, which the
 //! filter reads. So a set of points with one of them first stands for all its lists. Of the targets, only those count that
-//! have an answer; where nothing fits, the Rust finds nothing either.
+//! have an answer with a pair: where nothing fits, the Rust finds nothing either, and of two atoms it keeps the cheapest too.
 
 use std::collections::HashSet;
 use std::fmt;
 use std::ops::RangeInclusive;
 
-use crate::access::{self, Row};
+use crate::access::{self, Row, Trial};
 
 use super::{repeated_points, Setting, PAIRS_MAX};
 use crate::inputs::one_variable;
-use crate::spec::product::{self, Answer};
+use crate::spec::product::product;
 
 pub fn print() {
     print_d1();
@@ -84,16 +84,73 @@ fn print_d1() {
     print_six_atoms();
 }
 
+/// One width throughout: every set of points where they are few, then all points equal.
 fn print_d2() {
     for (num_vars, width) in [(1, 1), (1, 2), (1, 3), (2, 1), (3, 1)] {
-        let mut space = Space::of_d2(format!(
-            "variables {num_vars}, width {width}, every set of points, zero bank target"
-        ));
-        for points in sets(1 << (width * num_vars)) {
-            space.first_stages(num_vars, width, &points);
-        }
-        space.print();
+        let points = sets_with_first(1 << (width * num_vars));
+        let name = format!(
+            "variables {num_vars}, width {width}, every set of points, every first one, zero bank target"
+        );
+        D2Spaces::new(&name).search(num_vars, width, &points, &[[0; 16]]);
     }
+    for width in 4..=5 {
+        let points: Vec<Vec<u64>> = (0..1 << width).map(|point| vec![point]).collect();
+        let name =
+            format!("one variable, width {width}, all points equal, at most one word seeded");
+        D2Spaces::new(&name).search(1, width, &points, &single_seeds(width));
+    }
+}
+
+/// D2 by its two cases.
+struct D2Spaces {
+    cheaper_pair: Space,
+    later_pair: Space,
+}
+
+impl D2Spaces {
+    fn new(name: &str) -> Self {
+        let space = |case: &str| Space::new(format!("D2, {case}, in {name}"));
+        Self {
+            cheaper_pair: space("a pair cheaper than two atoms"),
+            later_pair: space("a pair cheaper than the first"),
+        }
+    }
+
+    /// All of these points with all bank targets.
+    fn search(mut self, num_vars: u32, width: u32, points: &[Vec<u64>], bank_targets: &[Row]) {
+        for codes in points {
+            let point = |&code: &u64| digits(code, num_vars, width);
+            let points: Vec<Vec<u64>> = codes.iter().map(point).collect();
+            let mut seen: HashSet<Vec<Row>> = HashSet::new();
+            for &bank_target in bank_targets {
+                let atoms = access::bank(num_vars, width, &repeated_points(&points), bank_target);
+                if seen.insert(atoms.iter().map(|atom| atom.row).collect()) {
+                    let setting = Setting::new(atoms, PAIRS_MAX, width);
+                    self.answers(&points, bank_target, &setting);
+                }
+            }
+        }
+        self.cheaper_pair.print();
+        self.later_pair.print();
+    }
+
+    /// Every row that has an answer with a pair.
+    fn answers(&mut self, points: &[Vec<u64>], bank_target: Row, setting: &Setting) {
+        let two_atoms = products_of_atoms(setting);
+        let (cheaper, later): (Vec<_>, Vec<_>) = answers_with_pair(setting)
+            .into_iter()
+            .partition(|found| two_atoms.contains(&found.0));
+        let rust = setting.two_atoms_each(&targets(&cheaper));
+        self.cheaper_pair
+            .answers(points, bank_target, setting, &cheaper, &rust);
+        let rust = setting.product_loops(&targets(&later));
+        self.later_pair
+            .answers(points, bank_target, setting, &later, &rust);
+    }
+}
+
+fn targets(found: &[(Row, Trial)]) -> Vec<Row> {
+    found.iter().map(|found| found.0).collect()
 }
 
 /// The bank of six atoms that all points equal 0, 1 or 2^w - 1 give, the fewest from width 3 up; its index of the same width.
@@ -118,16 +175,11 @@ struct Space {
     differences: usize,
     /// By atoms and pairs, then the text.
     smallest: Option<([usize; 2], String)>,
-    smallest_missed: Option<([usize; 2], String)>,
 }
 
 impl Space {
     fn of_d1(name: String) -> Self {
         Self::new(format!("D1 in {name}"))
-    }
-
-    fn of_d2(name: String) -> Self {
-        Self::new(format!("D2 in {name}"))
     }
 
     fn new(name: String) -> Self {
@@ -136,7 +188,6 @@ impl Space {
             settings: 0,
             differences: 0,
             smallest: None,
-            smallest_missed: None,
         }
     }
 
@@ -152,6 +203,7 @@ impl Space {
         }
     }
 
+    /// Whether the Rust finds something where no two atoms fit.
     fn product_loop(
         &mut self,
         widths: Widths,
@@ -161,66 +213,60 @@ impl Space {
     ) {
         self.settings += 1;
         let width = widths.search;
-        let answers = sorted_answers(&setting.rows, &setting.index.rows, width);
-        let with_pair: Vec<(Row, (usize, usize))> = answers
-            .into_iter()
-            .filter_map(|(target, answer)| match answer {
-                Answer::AtomAndPair(atom, pair) => Some((target, (atom, pair))),
-                _ => None,
-            })
-            .collect();
-        let targets: Vec<Row> = with_pair.iter().map(|found| found.0).collect();
-        let found = access::product_loops(&targets, &setting.rows, &setting.index.rows, width);
-        for ((target, expected), found) in with_pair.into_iter().zip(found) {
-            if found == Some(expected) {
+        let two_atoms = products_of_atoms(setting);
+        let mut with_pair = answers_with_pair(setting);
+        with_pair.retain(|(target, _)| !two_atoms.contains(target));
+        let rust = setting.product_loops(&targets(&with_pair));
+        for ((target, found), rust) in with_pair.into_iter().zip(rust) {
+            if rust.is_some() {
                 continue;
             }
             // the pair that the Rust misses has a first word beyond the width
-            assert!(setting.index.rows[expected.1][0] >> width != 0);
-            let shown = points.len();
-            let text = format!(
-                "{widths}, points {points:?}, bank target {:?}, target {:?}: {expected:?}, Rust {found:?}",
-                &bank_target[..2],
-                &target[..shown]
-            );
-            self.note(setting, text, found.is_none());
-        }
-    }
-
-    /// The first stage over the bank of these points, for every row that has an answer.
-    fn first_stages(&mut self, num_vars: u32, width: u32, points: &[u64]) {
-        self.settings += 1;
-        let points: Vec<Vec<u64>> = points
-            .iter()
-            .map(|&code| digits(code, num_vars, width))
-            .collect();
-        let atoms = access::bank(num_vars, width, &repeated_points(&points), [0; 16]);
-        let setting = Setting::new(atoms, 0, width);
-        for (target, answer) in sorted_answers(&setting.rows, &[], width) {
-            let Answer::TwoAtoms(a, b) = answer else {
-                panic!("there are no pairs");
+            let Trial::AtomPair(_, pair) = found else {
+                panic!("no two atoms fit");
             };
-            let found = setting.two_atoms(target).expect("two atoms fit");
-            if found != (a, b) {
-                // the Rust's choice is cheaper
-                assert!(setting.product_cost(found) < setting.product_cost((a, b)));
-                let shown = points.len();
-                let text = format!(
-                    "points {points:?}, target {:?}: {:?}, Rust {found:?}",
-                    &target[..shown],
-                    (a, b)
-                );
-                self.note(&setting, text, false);
-            }
+            assert!(setting.index.rows[pair][0] >> width != 0);
+            let text = format!(
+                "{widths}, points {points:?}, bank target {:?}, target {:?}: {found:?}, Rust none",
+                &bank_target[..2],
+                &target[..points.len()]
+            );
+            self.note(setting, text);
         }
     }
 
-    fn note(&mut self, setting: &Setting, text: String, missed: bool) {
+    /// The Rust's answers, which cost more where they are others.
+    fn answers(
+        &mut self,
+        points: &[Vec<u64>],
+        bank_target: Row,
+        setting: &Setting,
+        found: &[(Row, Trial)],
+        rust: &[Option<Trial>],
+    ) {
+        self.settings += 1;
+        for (&(target, found), &rust) in found.iter().zip(rust) {
+            let rust = rust.expect("something fits");
+            if rust == found {
+                continue;
+            }
+            let [cost, rust_cost] = [found, rust].map(|trial| setting.written().cost(trial));
+            assert!(cost < rust_cost);
+            let text = format!(
+                "points {points:?}, bank target {:?}, target {:?}: {found:?} for {cost:?}, Rust {rust:?} for {rust_cost:?}",
+                &bank_target[..2],
+                &target[..points.len()],
+            );
+            self.note(setting, text);
+        }
+    }
+
+    fn note(&mut self, setting: &Setting, text: String) {
         self.differences += 1;
         let key = [setting.rows.len(), setting.index.rows.len()];
-        keep_least(&mut self.smallest, key, &text);
-        if missed {
-            keep_least(&mut self.smallest_missed, key, &text);
+        let least = self.smallest.as_ref();
+        if least.is_none_or(|(least_key, _)| key < *least_key) {
+            self.smallest = Some((key, text));
         }
     }
 
@@ -232,26 +278,27 @@ impl Space {
         if let Some(([atoms, pairs], text)) = &self.smallest {
             println!("  smallest: {atoms} atoms, {pairs} pairs; {text}");
         }
-        if let Some(([atoms, pairs], text)) = &self.smallest_missed {
-            println!(
-                "  smallest where the Rust finds nothing: {atoms} atoms, {pairs} pairs; {text}"
-            );
-        }
     }
 }
 
-fn keep_least(least: &mut Option<([usize; 2], String)>, key: [usize; 2], text: &str) {
-    if least.as_ref().is_none_or(|(least_key, _)| key < *least_key) {
-        *least = Some((key, text.to_string()));
-    }
+/// The rows that some two atoms fit.
+fn products_of_atoms(setting: &Setting) -> HashSet<Row> {
+    let rows = &setting.rows;
+    let with = |left| {
+        rows.iter()
+            .map(move |right| product(left, right, setting.width))
+    };
+    rows.iter().flat_map(with).collect()
 }
 
-fn sorted_answers(atoms: &[Row], pairs: &[Row], width: u32) -> Vec<(Row, Answer)> {
-    let mut answers: Vec<(Row, Answer)> = product::all_answers(atoms, pairs, width)
-        .into_iter()
+/// Every row whose answer is an atom and a pair, in the order of the rows.
+fn answers_with_pair(setting: &Setting) -> Vec<(Row, Trial)> {
+    let answers = setting.written().all_answers().into_iter();
+    let mut with_pair: Vec<(Row, Trial)> = answers
+        .filter(|(_, trial)| matches!(trial, Trial::AtomPair(..)))
         .collect();
-    answers.sort_by_key(|found| found.0);
-    answers
+    with_pair.sort_by_key(|found| found.0);
+    with_pair
 }
 
 /// The words of a point that is counted by one number.
@@ -287,7 +334,7 @@ fn single_seeds(bank_width: u32) -> Vec<Row> {
     (0..1 << bank_width).map(|word| [word; 16]).collect()
 }
 
-/// Bank targets of one or two words. Up to width 3 they seed in every way: only 3 and 4 can be new there.
+/// Bank targets of one or two words. Up to width 3 they seed in every way with one variable: only 3 and 4 can be new there.
 fn pairs_of_seeds(bank_width: u32) -> Vec<Row> {
     let mut targets = single_seeds(bank_width);
     for first in 0..1 << bank_width {

@@ -1,6 +1,8 @@
-//! Inputs made at random: formulas of given shapes, points and targets of several styles, rows of few kinds; and the indexes of rows.
+//! Inputs made at random: formulas of given shapes, points and targets of several styles, rows of few kinds, banks that no build made; and
+//! the indexes of rows.
 
 pub mod banks;
 pub mod formulas;
 pub mod indexes;
+pub mod lent;
 pub mod rows;

@@ -8,6 +8,8 @@ use super::formulas::{
 use super::refusals::{NONE, REFUSED_LENGTH, REFUSED_VARS, REFUSED_WIDTH, REFUSED_WORD};
 
 pub const ATOMS_MAX: usize = 479;
+/// The places for an atom's tokens.
+pub const ATOM_TOKENS: usize = 6;
 /// Of the target's nonzero words, so many are seeded.
 const SEED_WORDS: usize = 7;
 

@@ -109,6 +109,15 @@ fn last<T>(mut stack: Vec<T>) -> T {
     last
 }
 
+/// Two formulas under a gate.
+pub fn joined(left: &Formula, right: &Formula, gate: u8) -> Formula {
+    let mut formula = left.clone();
+    formula.ops.extend(&right.ops);
+    formula.operands.extend(&right.operands);
+    formula.push(gate, 0);
+    formula
+}
+
 /// What is handed to the calls that take a formula, well-formed or not.
 #[derive(Clone)]
 pub struct Handed {
@@ -163,23 +172,25 @@ impl Handed {
             return false;
         }
         let count = self.count as usize;
-        let ops = &self.ops[..count];
-        let tokens_good = ops
-            .iter()
-            .zip(&self.operands)
-            .all(|(&op, &operand)| self.is_token(op, operand));
-        let shape = leaves_one(ops);
-        assert_eq!(shape, is_tree_from_the_end(ops));
-        tokens_good && shape
+        is_formula(self.num_vars, &self.ops[..count], &self.operands[..count])
     }
+}
 
-    fn is_token(&self, op: u64, operand: u64) -> bool {
-        match op {
-            0 => true,
-            1 => operand < self.num_vars,
-            2..=8 => operand == 0,
-            _ => false,
-        }
+/// The formula test of tokens that are neither none nor too many.
+pub(super) fn is_formula(num_vars: u64, ops: &[u64], operands: &[u64]) -> bool {
+    let mut tokens = ops.iter().zip(operands);
+    let tokens_good = tokens.all(|(&op, &operand)| is_token(num_vars, op, operand));
+    let shape = leaves_one(ops);
+    assert_eq!(shape, is_tree_from_the_end(ops));
+    tokens_good && shape
+}
+
+fn is_token(num_vars: u64, op: u64, operand: u64) -> bool {
+    match op {
+        0 => true,
+        1 => operand < num_vars,
+        2..=8 => operand == 0,
+        _ => false,
     }
 }
 

@@ -2,8 +2,8 @@
 
 use crate::access::Row;
 
-use super::bank::ATOMS_MAX;
-use super::formulas::{TOKENS_MAX, VARS_MAX};
+use super::bank::{ATOMS_MAX, ATOM_TOKENS};
+use super::formulas::{is_formula, TOKENS_MAX, VARS_MAX};
 use super::index::PAIRS_MAX;
 use super::product::order_list;
 use super::refusals::{
@@ -88,30 +88,82 @@ fn reaches(word: u64, width: u64) -> bool {
 
 /// What is handed to the product search; of the atoms' rows their length.
 #[derive(Clone)]
-pub struct ProductSearch {
+pub struct ProductSearch<'a> {
     pub width: u64,
     pub count: u64,
+    pub formulas: Formulas<'a>,
     pub atoms: u64,
     pub pairs: Pairs,
+    /// Gate, b and c of each pair.
+    pub words: &'a [u32],
     pub target: Row,
 }
 
-impl ProductSearch {
-    /// The table for the product search: 2, 4, 5, 7, 8, the least that applies.
+/// The atoms' formulas: recorded lengths, and six places for tokens each.
+#[derive(Clone, Copy)]
+pub struct Formulas<'a> {
+    pub lengths: &'a [u32],
+    pub ops: &'a [u8],
+    pub operands: &'a [u64],
+}
+
+impl Formulas<'_> {
+    fn is_array_short(&self, count: u64) -> bool {
+        let [lengths, ops, operands] =
+            [self.lengths.len(), self.ops.len(), self.operands.len()].map(|length| length as u64);
+        is_short(lengths, 1, count) || is_short(ops, 6, count) || is_short(operands, 6, count)
+    }
+
+    /// Whether an atom has one to six tokens that pass the formula test with six variables.
+    fn is_formula(&self, atom: usize) -> bool {
+        let length = self.lengths[atom] as usize;
+        if length == 0 || length > ATOM_TOKENS {
+            return false;
+        }
+        let ops = &self.ops[ATOM_TOKENS * atom..][..length];
+        let ops: Vec<u64> = ops.iter().copied().map(u64::from).collect();
+        let operands = &self.operands[ATOM_TOKENS * atom..][..length];
+        is_formula(VARS_MAX, &ops, operands)
+    }
+}
+
+impl ProductSearch<'_> {
+    /// The table for the product search: 2, 4, 5, 6, 7, 8, the least that applies.
     pub fn refusal(&self) -> u64 {
         if !(1..=64).contains(&self.width) {
             REFUSED_WIDTH
-        } else if is_short(self.atoms, 16, self.count) || self.pairs.is_array_short() {
+        } else if self.is_array_short() {
             REFUSED_LENGTH
         } else if self.target.iter().any(|&word| reaches(word, self.width)) {
             REFUSED_WORD
-        } else if self.count > ATOMS_MAX as u64 || self.pairs.count > PAIRS_MAX {
+        } else if !(0..self.count as usize).all(|atom| self.formulas.is_formula(atom)) {
+            REFUSED_FORMULA
+        } else if self.are_counts_large() || !self.are_pairs_good() {
             REFUSED_COUNT
         } else if !self.pairs.is_ordered() {
             REFUSED_ORDER
         } else {
             NONE
         }
+    }
+
+    fn is_array_short(&self) -> bool {
+        self.formulas.is_array_short(self.count)
+            || is_short(self.atoms, 16, self.count)
+            || is_short(self.words.len() as u64, 3, self.pairs.count)
+            || self.pairs.is_array_short()
+    }
+
+    fn are_counts_large(&self) -> bool {
+        self.count > ATOMS_MAX as u64 || self.pairs.count > PAIRS_MAX
+    }
+
+    /// Gates up to 4, and both atoms below the count.
+    fn are_pairs_good(&self) -> bool {
+        let is_atom = |slot: u32| u64::from(slot) < self.count;
+        let pairs = self.words.chunks_exact(3).take(self.pairs.count as usize);
+        let is_good = |pair: &[u32]| pair[0] <= 4 && is_atom(pair[1]) && is_atom(pair[2]);
+        pairs.map(is_good).all(|good| good)
     }
 }
 

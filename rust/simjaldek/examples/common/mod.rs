@@ -1,6 +1,6 @@
 //! What the examples of the searches share: their arguments, and what they tell of a formula and of what is found for it.
 
-use simjaldek::{FormulaBuf, Index, Points, Reading};
+use simjaldek::{Cost, FormulaBuf, Index, Points, Reading};
 use std::env;
 use std::error::Error;
 use std::fmt::Write;
@@ -58,14 +58,19 @@ pub fn head(read: &Reading, index: &Index<'_>) -> Printed {
     Ok(text)
 }
 
-/// What was found for a formula, a `kind` of thing, and whether it costs less.
-pub fn found(points: &Points, read: &Reading, kind: &str, found: &FormulaBuf) -> Printed {
+/// What was found for a formula, a `kind` of thing, its cost, and whether that is less; where it isn't, what it is among those that fit.
+pub fn found(
+    points: &Points,
+    read: &Reading,
+    kind: &str,
+    (found, cost): (FormulaBuf, Cost),
+    among: &str,
+) -> Printed {
     let before = points.compute_cost(read.formula.as_formula())?;
-    let cost = points.compute_cost(found.as_formula())?;
     let better = if cost.is_better(before) {
         "better than the formula's".to_owned()
     } else {
-        format!("not better than the formula's (it is the first {kind} found, not the cheapest: a shorter one may exist)")
+        format!("not better than the formula's (it is {among})")
     };
     Ok(format!(
         "{kind} {found}\ncost {cost}, {better}\n{BELIEVE}\n"

@@ -1,8 +1,8 @@
 //! Inputs that several tests use.
 #![allow(dead_code)]
 
-use simjaldek::lent::{work_len, BankArrays, IndexArrays, Pairs};
-use simjaldek::{Bank, Points, Row, ATOMS_MAX};
+use simjaldek::lent::{work_len, BankArrays, IndexArrays, Pairs, WrittenAtoms, WrittenPairs};
+use simjaldek::{Bank, FormulaBuf, Gate, Points, Row, ATOMS_MAX, ATOM_TOKENS};
 
 /// A row of these words over and over.
 pub fn repeated(words: &[u64]) -> Row {
@@ -88,10 +88,97 @@ impl IndexBuffers {
         }
     }
 
-    /// The first so many pairs as a search takes them.
+    /// The first so many pairs without their gates and atoms.
     pub fn pairs(&self, count: usize) -> Pairs<'_> {
-        Pairs {
+        self.written(count).ordered()
+    }
+
+    /// The first so many pairs as a product search takes them.
+    pub fn written(&self, count: usize) -> WrittenPairs<'_> {
+        WrittenPairs {
             count,
+            words: &self.pairs,
+            rows: &self.rows,
+            order: &self.order,
+        }
+    }
+}
+
+/// Atoms of a caller's own: formulas and rows that need have nothing to do with each other. Past a formula's length stands what is no token.
+#[derive(Clone, Debug, Default)]
+pub struct OwnAtoms {
+    pub lengths: Vec<u32>,
+    pub ops: Vec<u8>,
+    pub operands: Vec<u64>,
+    pub rows: Vec<u64>,
+}
+
+impl OwnAtoms {
+    /// An atom for each formula and row.
+    pub fn new(atoms: &[(&str, Row)]) -> Self {
+        let mut own = OwnAtoms::default();
+        for (text, row) in atoms {
+            own.push(&text.parse().expect("tokens"), row);
+        }
+        own
+    }
+
+    /// An atom of one variable for each row.
+    pub fn of_rows(rows: &[Row]) -> Self {
+        let atoms: Vec<(&str, Row)> = rows.iter().map(|&row| ("v0", row)).collect();
+        OwnAtoms::new(&atoms)
+    }
+
+    /// One more atom.
+    pub fn push(&mut self, formula: &FormulaBuf, row: &Row) {
+        let formula = formula.as_formula();
+        let end = ATOM_TOKENS * (self.lengths.len() + 1);
+        self.lengths.push(formula.len() as u32);
+        self.ops.extend(formula.ops());
+        self.ops.resize(end, FILL);
+        self.operands.extend(formula.operands());
+        self.operands.resize(end, FILL_U64);
+        self.rows.extend(row);
+    }
+
+    pub fn lend(&self) -> WrittenAtoms<'_> {
+        WrittenAtoms {
+            count: self.lengths.len(),
+            lengths: &self.lengths,
+            ops: &self.ops,
+            operands: &self.operands,
+            rows: &self.rows,
+        }
+    }
+}
+
+/// Pairs of a caller's own: gates, atoms and rows that need have nothing to do with each other, and their order list.
+#[derive(Clone, Debug, Default)]
+pub struct OwnPairs {
+    pub words: Vec<u32>,
+    pub rows: Vec<u64>,
+    pub order: Vec<u32>,
+}
+
+impl OwnPairs {
+    /// A pair for each gate, its two atoms and row.
+    pub fn new(pairs: &[(Gate, u32, u32, Row)]) -> Self {
+        let words = pairs
+            .iter()
+            .flat_map(|&(gate, b, c, _)| [gate.number(), b, c]);
+        let mut order: Vec<u32> = (0..pairs.len() as u32).collect();
+        order.sort_by_key(|&slot| (pairs[slot as usize].3[0], slot));
+        OwnPairs {
+            words: words.collect(),
+            rows: pairs.iter().flat_map(|pair| pair.3).collect(),
+            order,
+        }
+    }
+
+    pub fn lend(&self) -> WrittenPairs<'_> {
+        WrittenPairs {
+            count: self.order.len(),
+            words: &self.words,
             rows: &self.rows,
             order: &self.order,
         }

@@ -1,7 +1,7 @@
 //! Lines of kind 16: product searches over built banks with their indexes, by the specification. The Rust's product
 //! loop and its layer 1 are held against them as far as docs/DIFFERENCES.md has them alike.
 
-use crate::access::Row;
+use crate::access::{Cost, Row, Trial};
 
 use super::PRODUCTS;
 use crate::answers::data_file::DataFile;
@@ -9,18 +9,20 @@ use crate::answers::searched::{changed, p2, small_bank, Searched, LIMIT_MAX};
 use crate::differences::known::{self, Input};
 use crate::differences::Setting;
 use crate::inputs::{repeated, Inputs};
-use crate::made::banks::BankInput;
+use crate::made::banks::{largest, BankInput};
 use crate::spec::gates::are_reduced;
-use crate::spec::product::{first_stage, fits, is_used, product, Answer};
+use crate::spec::product::{anything_fits, is_used, product};
 
 /// Banks with a small index, for each variable count.
-const SMALL_BANKS: usize = 4;
+const SMALL_BANKS: usize = 3;
 /// Banks with a search at another width, for each variable count.
 const OTHER_WIDTHS: usize = 3;
-/// Searches whose answer hangs on the order of the pairs, for each order.
-const ORDERED: usize = 6;
+/// Searches of each kind that is drawn until it comes up.
+const DRAWN: usize = 6;
 /// How often a row is drawn anew for the answer that it is to have.
 const DRAWS: usize = 30;
+/// Trials that fit, at least, where there are many.
+const MANY: usize = 1000;
 
 /// A line for a row searched for, of an index at the search's width.
 fn line(file: &mut DataFile, searched: &Searched, row: Row) {
@@ -30,43 +32,54 @@ fn line(file: &mut DataFile, searched: &Searched, row: Row) {
 
 fn answered(file: &mut DataFile, searched: &Searched, row: Row) {
     let (answer, a, b) = match searched.setting.try_everything(&row) {
-        Answer::Nothing => (0, 0, 0),
-        Answer::TwoAtoms(a, b) => (1, a, b),
-        Answer::AtomAndPair(a, pair) => (2, a, pair),
+        None => (0, 0, 0),
+        Some(Trial::Atoms(a, b)) => (1, a, b),
+        Some(Trial::AtomPair(a, pair)) => (2, a, pair),
     };
     searched.line(file, PRODUCTS, &row, &[answer, a as u64, b as u64]);
 }
 
-/// Two atoms are found by both or by none. The product loop finds what the specification's second stage finds, since no pair's first
-/// word reaches 2^width.
+/// The Rust's layer 1 keeps the cheapest two atoms, and its product loop finds the first atom and pair, since no pair's first word
+/// reaches 2^width; both to their ends keep the cheapest product, and one is shown exactly if any fits.
 fn ask_the_rust(setting: &Setting, row: Row) {
-    let first = first_stage(&row, &setting.rows, setting.width);
-    assert_eq!(setting.two_atoms(row).is_some(), first.is_some());
+    let written = setting.written();
+    assert_eq!(setting.two_atoms(row), written.least_two_atoms(&row));
     assert!(are_reduced(&setting.index.rows, setting.width));
-    assert_eq!(setting.product_loop(row), setting.second_stage(&row));
+    assert_eq!(setting.product_loop(row), written.first_pair(&row));
+    let least = written.try_everything(&row);
+    assert_eq!(setting.least_product(row), least);
+    let fits = anything_fits(&row, &setting.rows, &setting.index.rows, setting.width);
+    assert_eq!(least.is_some(), fits);
 }
 
 pub fn lines(file: &mut DataFile) {
     sheet(file);
-    for input in &known::PRODUCT_LOOP {
+    for input in &known::MISSED {
         at_search_width(file, input);
         at_its_own_width(file, input);
     }
-    for input in &known::FIRST_STAGE {
+    for input in known::CHEAPER_PAIR.iter().chain(&known::LATER_PAIR) {
         let setting = at_search_width(file, input);
-        assert_eq!(setting.try_everything(&input.row()), input.answer);
-        assert_eq!(setting.two_atoms(input.row()), input.rust);
+        assert_eq!(setting.try_everything(&input.row()), Some(input.answer));
     }
     let inputs = &mut Inputs::of_kind(PRODUCTS);
     small(file, inputs);
     every_width(file, inputs);
     other_widths(file, inputs);
     for used in [true, false] {
-        pair_orders(file, inputs, used);
+        drawn_lines(file, inputs, |setting, row| {
+            hangs_on_order(setting, row, used)
+        });
     }
+    drawn_lines(file, inputs, is_one);
+    drawn_lines(file, inputs, is_tied);
+    drawn_lines(file, inputs, is_pair_before_atoms);
+    drawn_lines(file, inputs, is_after_the_first);
+    many(file, inputs);
 }
 
-/// P2's bank with all 36 pairs or fewer: products of atoms and of atoms and pairs, and rows that miss in one word.
+/// P2's bank with all 36 pairs or fewer: products of atoms and of atoms and pairs, and rows that miss in one word. The row of
+/// `v0 v0 *` is that of atom 8, which is dearer than what it is made of.
 fn sheet(file: &mut DataFile) {
     for limit in [LIMIT_MAX, 36, 35, 1, 0] {
         let searched = Searched::new(p2(), 2, limit);
@@ -75,6 +88,7 @@ fn sheet(file: &mut DataFile) {
         assert_eq!((setting.rows.len(), pairs), (14, limit.min(36)));
         let squares = setting.rows[8];
         assert_eq!(squares, repeated(&[0, 1, 0, 1]));
+        assert_eq!(setting.try_everything(&squares), Some(Trial::Atoms(4, 4)));
         let mut rows = vec![squares, changed(&squares, 15, 2), changed(&squares, 0, 2)];
         if let Some(last) = setting.index.rows.last() {
             let row = product(&setting.rows[3], last, 2);
@@ -99,7 +113,7 @@ fn at_search_width(file: &mut DataFile, input: &Input) -> Setting {
 fn at_its_own_width(file: &mut DataFile, input: &Input) {
     let searched = Searched::with_index(input.bank(), input.index_width, input.width, LIMIT_MAX);
     let setting = &searched.setting;
-    assert_eq!(setting.try_everything(&input.row()), input.answer);
+    assert_eq!(setting.try_everything(&input.row()), Some(input.answer));
     assert_eq!(setting.product_loop(input.row()), input.rust);
     answered(file, &searched, input.row());
 }
@@ -158,7 +172,7 @@ fn two_atoms(inputs: &mut Inputs, setting: &Setting) -> Row {
 
 fn atom_and_pair(inputs: &mut Inputs, setting: &Setting) -> Row {
     let draw = || any_product(inputs, setting);
-    let wanted = |answer| matches!(answer, Answer::AtomAndPair(..));
+    let wanted = |answer| matches!(answer, Some(Trial::AtomPair(..)));
     drawn(setting, draw, wanted)
 }
 
@@ -168,7 +182,7 @@ fn missing(inputs: &mut Inputs, setting: &Setting, place: usize) -> Row {
         let bit = inputs.below(setting.width.into());
         changed(&row, place, 1 << bit)
     };
-    drawn(setting, draw, |answer| answer == Answer::Nothing)
+    drawn(setting, draw, |answer| answer.is_none())
 }
 
 /// Of an atom and a pair, if there are pairs.
@@ -182,7 +196,11 @@ fn any_product(inputs: &mut Inputs, setting: &Setting) -> Row {
 }
 
 /// The first row with such an answer, or if none is drawn the last one.
-fn drawn(setting: &Setting, mut draw: impl FnMut() -> Row, wanted: impl Fn(Answer) -> bool) -> Row {
+fn drawn(
+    setting: &Setting,
+    mut draw: impl FnMut() -> Row,
+    wanted: impl Fn(Option<Trial>) -> bool,
+) -> Row {
     let mut row = draw();
     for _ in 0..DRAWS {
         if wanted(setting.try_everything(&row)) {
@@ -242,28 +260,109 @@ fn other_widths(file: &mut DataFile, inputs: &mut Inputs) {
     }
 }
 
-/// Two pairs fit the atom, and the first by first word is not the first by slot; the filter is used for the one order.
-fn pair_orders(file: &mut DataFile, inputs: &mut Inputs, used: bool) {
+/// Lines for rows with a property that any product may have, over whole indexes.
+fn drawn_lines(
+    file: &mut DataFile,
+    inputs: &mut Inputs,
+    is_wanted: impl Fn(&Setting, &Row) -> bool,
+) {
     let mut found = 0;
-    while found < ORDERED {
+    while found < DRAWN {
         let bank = small_bank(inputs, 1 + found as u32 % 3);
         let width = bank.width;
         let searched = Searched::new(bank, width, LIMIT_MAX);
-        let row = atom_and_pair(inputs, &searched.setting);
-        if hangs_on_order(&searched.setting, &row, used) {
+        let row = any_product(inputs, &searched.setting);
+        if is_wanted(&searched.setting, &row) {
             line(file, &searched, row);
             found += 1;
         }
     }
 }
 
+/// Several pairs of the least cost fit the answer's atom, and the first by first word is not the first by slot; the filter is used for
+/// the one order.
 fn hangs_on_order(setting: &Setting, row: &Row, used: bool) -> bool {
-    let Answer::AtomAndPair(a, _) = setting.try_everything(row) else {
+    let Some(answer) = setting.try_everything(row) else {
         return false;
     };
-    let (atom, pairs, width) = (&setting.rows[a], &setting.index.rows, setting.width);
-    let fit = |slot: &usize| fits(atom, &pairs[*slot], row, width);
-    let by_word = setting.index.order.iter().copied().find(fit);
-    let by_slot = (0..pairs.len()).find(fit);
-    is_used(atom[0], row[0], width) == used && by_word != by_slot
+    let Trial::AtomPair(a, _) = answer else {
+        return false;
+    };
+    let written = setting.written();
+    let least = written.cost(answer);
+    let is_least = |slot: &usize| {
+        let trial = Trial::AtomPair(a, *slot);
+        written.fits(trial, row) && written.cost(trial) == least
+    };
+    let by_word = setting.index.order.iter().copied().find(is_least);
+    let by_slot = (0..setting.index.rows.len()).find(is_least);
+    is_used(setting.rows[a][0], row[0], setting.width) == used && by_word != by_slot
+}
+
+/// One trial fits: an atom with itself, or an atom with a pair.
+fn is_one(setting: &Setting, row: &Row) -> bool {
+    setting.written().fitting(row).len() == 1
+}
+
+/// Three trials or more fit for the least cost, and some for another.
+fn is_tied(setting: &Setting, row: &Row) -> bool {
+    let costs = costs(setting, row);
+    let least = costs.iter().min();
+    let count = costs.iter().filter(|&cost| Some(cost) == least).count();
+    count > 2 && count < costs.len()
+}
+
+fn costs(setting: &Setting, row: &Row) -> Vec<Cost> {
+    let written = setting.written();
+    let fitting = written.fitting(row).into_iter();
+    fitting.map(|trial| written.cost(trial)).collect()
+}
+
+/// Two atoms fit, and an atom with a pair is cheaper.
+fn is_pair_before_atoms(setting: &Setting, row: &Row) -> bool {
+    let least = setting.try_everything(row);
+    matches!(least, Some(Trial::AtomPair(..))) && setting.two_atoms(*row).is_some()
+}
+
+/// No two atoms fit, and the cheapest is not the first that does.
+fn is_after_the_first(setting: &Setting, row: &Row) -> bool {
+    let first = setting.written().first_pair(row);
+    setting.two_atoms(*row).is_none() && setting.try_everything(row) != first
+}
+
+/// Rows that a thousand trials fit, or many more: zeros, a constant, and at small widths even words.
+fn many(file: &mut DataFile, inputs: &mut Inputs) {
+    for (num_vars, width) in [(1, 8), (2, 3), (3, 4), (4, 2), (6, 64)] {
+        line_for_many(file, inputs, num_vars, width, |_, _| [0; 16]);
+    }
+    for (num_vars, width) in [(1, 2), (2, 2), (3, 1)] {
+        line_for_many(file, inputs, num_vars, width, |inputs, width| {
+            [1 + inputs.below(largest(width)); 16]
+        });
+    }
+    for (num_vars, width) in [(2, 2), (2, 3), (3, 4)] {
+        line_for_many(file, inputs, num_vars, width, |inputs, width| {
+            let half = 1 << (width - 1);
+            let words = [0, half, half];
+            std::array::from_fn(|_| inputs.one_of(&words))
+        });
+    }
+}
+
+/// A line for the first row drawn that so many trials fit.
+fn line_for_many(
+    file: &mut DataFile,
+    inputs: &mut Inputs,
+    num_vars: u32,
+    width: u32,
+    row: impl Fn(&mut Inputs, u32) -> Row,
+) {
+    loop {
+        let bank = BankInput::of_any_style(inputs, num_vars, width);
+        let searched = Searched::new(bank, width, LIMIT_MAX);
+        let row = row(inputs, width);
+        if searched.setting.written().fitting(&row).len() >= MANY {
+            return line(file, &searched, row);
+        }
+    }
 }

@@ -1,23 +1,21 @@
--- `search_product_atoms::inner::first_atom` meets its contract: from atom b on the first that fits is the first of all, since none before a does. Where the first
--- products differ none fits. Assumes nothing.
+-- `search_product_atoms::inner::next_atom` meets its contract: nothing fits up to atom b. Where the first products differ none fits. Assumes nothing.
 use mathlib.Core.Path.{_≡_, sym, _∙_}
 use mathlib.Core.Bool.{false}
 use mathlib.Core.Logic.{inl, inr}
-use Prim.Native.Nat.{_-_, _≤_}
-use Rattle.arrays.specs.Lists.{countUp, firstThat}
+use Prim.Native.Nat.{ℕ, _-_, _≤_, _<_}
 use Rattle.search_product_trial.specs.Steps.{fitsAt}
-use Rattle.search_product_trial.proofs.Firsts.{first-not}
-use Rattle.arrays.proofs.Lists.{up-from, up-hit, up-miss, up-end}
-use borrow.Author.Needs.{needs}
+use Rattle.search_product_trial.proofs.Firsts.{first-not, skip-more}
 use native.Mathlib.Omega.{arith}
-use Rattle.search_product_atoms.proofs.inner.first_atom.Statement.{statement}
-use Rattle.search_product_atoms.proofs.inner.first_atom.Tie as tie
+use borrow.Author.Needs.{needs}
+use Rattle.search_product_atoms.proofs.inner.next_atom.Statement.{statement}
+use Rattle.search_product_atoms.proofs.inner.next_atom.Tie as tie
 
 abbrev Inv-loop : tie.InvT-loop
-Inv-loop firsts atoms a count target w p t b₀ b = (b ≤ count) × (firstThat (fitsAt w target atoms a atoms) (countUp b (count - b)) ≡ firstThat (fitsAt w target atoms a atoms) (countUp 0 count))
+Inv-loop firsts atoms a from count target w p t b₀ b =
+    (from ≤ b) × (b ≤ count) × ((k : ℕ) → from ≤ k → k < b → fitsAt w target atoms a atoms k ≡ false)
 
 abbrev μ-loop : tie.MeasureT-loop
-μ-loop firsts atoms a count target w p t b₀ b = count - b
+μ-loop firsts atoms a from count target w p t b₀ b = count - b
 
 mul-p : tie.Need-mul-p Inv-loop μ-loop
 mul-p c = search needs
@@ -35,8 +33,7 @@ shared-slice-read-t c =
 loop-holds : tie.Need-loop-holds Inv-loop μ-loop
 loop-holds c =
     let s = c .before .before .before .before .before in
-    let a = s .args in
-    (omega (arith, s .pre .1), up-from (fitsAt (a .w) (a .target .now) (a .atoms .now) (a .a) (a .atoms .now)) (a .count) (a .a) (omega (arith, s .pre .1)) (s .pre .5 .is))
+    (omega arith, s .pre .2, λ k l h. absurd (omega arith))
 
 mul-mod-mul : tie.Need-mul-mod-mul Inv-loop μ-loop
 mul-mod-mul c = search needs
@@ -52,16 +49,10 @@ fits-requires c κs =
     let s = c .before .before .before .before .before .before .before .before .before .before in
     (omega arith, omega arith, s .pre .4)
 
-cast-slot : tie.Need-cast-slot Inv-loop μ-loop
-cast-slot c = search needs
-
 returns : tie.Need-returns Inv-loop μ-loop
 returns c =
     let l = c .before .before .before .before .before .before .loop in
-    let s = c .before .before .before .before .before .before .before .before .before .before .before .before in
-    let a = s .args in
-    let test = fitsAt (a .w) (a .target .now) (a .atoms .now) (a .a) (a .atoms .now) in
-    sym (up-hit test (a .count) (l .b) (omega arith) (sym (c .before .fits2 .ensures) ∙ c .if2 .taken)) ∙ l .inv .1
+    record { from = l .inv .0; to = l .inv .1; skips = l .inv .2; stops = λ _. sym (c .before .fits2 .ensures) ∙ c .if2 .taken }
 
 add-b : tie.Need-add-b Inv-loop μ-loop
 add-b c = search needs
@@ -73,24 +64,22 @@ loop-again : tie.Need-loop-again Inv-loop μ-loop
 loop-again c =
     let r = c .before in
     let l = r .before .before .before .loop in
-    let s = r .before .before .before .before .before .before .before .before .before in
+    let s = c .before .before .before .before .before .before .before .before .before .before in
     let a = s .args in
     let test = fitsAt (a .w) (a .target .now) (a .atoms .now) (a .a) (a .atoms .now) in
     let miss : test (l .b) ≡ false = elim (c .if1 .came) [
       | inl y ↦ sym (y .1 .ensures) ∙ y .2 .left
-      | inr n ↦ first-not (a .w) (a .target .now) (a .atoms .now) (a .atoms .now) (a .a) (l .b) (s .pre .4) _ _ (r .mod-mul .result) (s .pre .0 .is (a .a) (omega arith)) (s .pre .0 .is (l .b) (omega arith)) (r .mod-mul .ensures) (n .left)
+      | inr n ↦ first-not (a .w) (a .target .now) (a .atoms .now) (a .atoms .now) (a .a) (l .b) (s .pre .4) _ _ (r .mod-mul .result) (s .pre .0 .is (a .a) (s .pre .1)) (s .pre .0 .is (l .b) (r .before .before .loop-test .taken)) (r .mod-mul .ensures) (n .left)
     ] in
-    (omega arith, up-miss test (a .count) (l .b) (omega arith) miss ∙ l .inv .1)
+    (omega (arith, l .inv .0), omega (arith, r .before .before .loop-test .taken), skip-more test (a .from) (l .b) (l .inv .2) miss)
 
 returns-2 : tie.Need-returns-2 Inv-loop μ-loop
 returns-2 c =
     let l = c .before .loop in
-    let a = c .before .before .before .before .before .before .before .args in
-    let test = fitsAt (a .w) (a .target .now) (a .atoms .now) (a .a) (a .atoms .now) in
-    sym (up-end test (a .count) (l .b) (omega arith)) ∙ l .inv .1
+    record { from = l .inv .0; to = l .inv .1; skips = l .inv .2; stops = λ h. absurd (omega (arith, h, c .loop-test .left)) }
 
-pub first-atom-spec : {M : Type 1} → statement M
-first-atom-spec =
+pub next-atom-spec : {M : Type 1} → statement M
+next-atom-spec =
     tie.close
     (tie.spec
     Inv-loop
@@ -103,7 +92,6 @@ first-atom-spec =
     shared-slice-read-mod-mul
     mod-mul-requires
     fits-requires
-    cast-slot
     returns
     add-b
     loop-less

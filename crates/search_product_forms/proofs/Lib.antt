@@ -1,0 +1,2 @@
+-- The laws of this crate, which the crates above cite too.
+pub mod Forming
