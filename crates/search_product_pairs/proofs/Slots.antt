@@ -1,32 +1,35 @@
 -- Laws of the slots that are tried with one atom: those that fit solve the equation of the first words, so others may be skipped. Assumes nothing.
-use mathlib.Core.Path.{_≡_, sym, ap, ap₂, _∙_, subst}
-use mathlib.Core.Bool.{Bool, true, false}
-use mathlib.Core.List.{List}
-use mathlib.Core.Option.{none}
-use Prim.Native.Nat.{ℕ, _+_, _*_, _%_, _^_, _≤_, _<_}
+use mathlib.Core.Path.{_≡_, refl, sym, ap, ap₂, _∙_, subst}
+use mathlib.Core.Bool.{Bool, true, false, cond}
+use mathlib.Core.Logic.{inl, inr}
+use mathlib.Core.List.{List, map}
+use mathlib.Core.Option.{Option}
+use Prim.Native.Nat.{ℕ, _-_, _*_, _%_, _^_, _≤_, _<_}
 use native.Mathlib.Nat.{mod-lt, mod-eq-of-lt}
 use native.Mathlib.Omega.{arith}
 use borrow.Author.Tests.{eq-eqb}
-use lib.ListN.{getD, take, drop}
+use lib.ListN.{length, getD, take}
 use lib.Pow.{pow-pos}
-use Rattle.arrays.specs.Lists.{countUp, firstThat}
+use Rattle.arrays.specs.Lists.{In, countUp}
 use Rattle.arith.specs.Word.{modulus}
-use Rattle.arrays.proofs.Lists.{is-false, first-none}
+use Rattle.arrays.proofs.Lists.{bool-cases, is-false, in-place, in-up, map-in}
+use Rattle.arrays.proofs.Least.{least-fails, take-places}
 use Rattle.limits.proofs.Refusals.{true-not-false}
 use Rattle.arith.proofs.Remainders.{modulus-is, mod-mul-mod}
 use Rattle.index_order.specs.Order.{firstWord, orderOf}
-use Rattle.index_order.proofs.OrderLaws.{order-exactly}
+use Rattle.index_order.proofs.OrderLaws.{order-length, order-exactly, order-below}
 use Rattle.search_equation.specs.Equation.{used, solves}
 use Rattle.search_equation.specs.Solved.{Asked, IsClass, IsNone}
-use Rattle.search_filter.specs.declared.inner.Residue.{Residue}
-use Rattle.search_filter.specs.declared.inner.Sweep.{Sweep}
-use Rattle.search_filter.specs.Places.{Ordered, Skips}
-use Rattle.search_filter.specs.Sweeps.{inClass, Small, Settled}
-use Rattle.search_filter.proofs.PlaceLaws.{skips-join, skips-narrow, first-skips}
-use Rattle.search_product_trial.specs.Trying.{slotsFor}
+use Rattle.search_filter.specs.Places.{Ordered}
+use Rattle.search_filter.specs.Sweeps.{Small}
+use Rattle.search_product_forms.specs.Forms.{Forms}
+use Rattle.search_product_trial.specs.declared.inner.Best.{Best}
+use Rattle.search_product_trial.specs.Trying.{Product, slotsFor, cheaper}
+use Rattle.search_product_trial.specs.Stages.{Keeps, Tried}
 use Rattle.search_product_trial.specs.Steps.{fitsAt, Target}
-use Rattle.search_product_pairs.specs.Steps.{Narrows}
 use Rattle.search_product_trial.proofs.Firsts.{first-product}
+use Rattle.search_product_trial.proofs.Keeping.{TriedTo}
+use Rattle.search_product_pairs.specs.Steps.{Narrows}
 
 -- ---- p is the first word of atom a, reduced
 module _ (w : ℕ) (target atoms listed : List ℕ) (a : ℕ) (ok : Target w target) (p : ℕ) (is : p ≡ firstWord atoms a % modulus w) where
@@ -66,10 +69,8 @@ module _ (w : ℕ) (target atoms listed : List ℕ) (a : ℕ) (ok : Target w tar
       ∙ first-product w target atoms listed a s ok e
       ∙ sym t-is)
 
-  pub none-fits : IsNone w p (getD target 0 0) → (l : List ℕ) → firstThat (fitsAt w target atoms a listed) l ≡ none
-  none-fits no′ l =
-      first-none (fitsAt w target atoms a listed) l
-      (λ s _. is-false (fitsAt w target atoms a listed s) (λ e. true-not-false (sym (fit-solves s e) ∙ no′ .is (firstWord listed s))))
+  pub none-fits : IsNone w p (getD target 0 0) → (s : ℕ) → fitsAt w target atoms a listed s ≡ false
+  none-fits no′ s = is-false (fitsAt w target atoms a listed s) (λ e. true-not-false (sym (fit-solves s e) ∙ no′ .is (firstWord listed s)))
 
   module _ (bits first : ℕ) (class : IsClass w p (getD target 0 0) bits first) where
     pub narrows : Narrows w target atoms a listed record { w = w; bits = bits; first = first }
@@ -82,15 +83,40 @@ module _ (w : ℕ) (target atoms listed : List ℕ) (a : ℕ) (ok : Target w tar
 pub listed-is : (n : ℕ) (rows order : List ℕ) → Ordered n rows order → take n order ≡ orderOf n rows
 listed-is n rows order o = order-exactly n rows (take n order) .only-it (o .is)
 
--- ---- a sweep over the places of the class passes over no fit
-module _ (n : ℕ) (listed slots : List ℕ) (o : Ordered n listed slots) (class : Residue) (test : ℕ → Bool) (narrow : (s : ℕ) → test s ≡ true → inClass class listed s ≡ true) where
-  pub sweep-start : (r : Sweep) → Settled class n listed slots 0 r → firstThat test (drop (r .at) (take n slots)) ≡ firstThat test (take n slots)
-  sweep-start r s =
-      sym (first-skips test n slots (o .order-fit) 0 (r .at) (s .from) (s .sweeping .within) (skips-narrow (inClass class listed) test slots 0 (r .at) narrow (s .skips)))
+-- ---- the slots of either order are slots of pairs
+pub slots-below : (w p t n : ℕ) (listed : List ℕ) (s : ℕ) → In s (slotsFor w p t n listed) → s < n
+unfolding slotsFor
+slots-below w p t n listed s h = elim (bool-cases (used (p % 2 ^ w) (t % 2 ^ w))) [
+  | inl y ↦ order-in (subst (λ (b : Bool). In s (cond b (orderOf n listed) (countUp 0 n))) y h)
+  | inr q ↦ in-up n s (subst (λ (b : Bool). In s (cond b (orderOf n listed) (countUp 0 n))) q h)
+]
+  where
+    order-in : In s (orderOf n listed) → s < n
+    order-in i =
+        let o = in-place 0 s (orderOf n listed) i in
+        let l = order-length n listed in
+        subst (λ (k : ℕ). k < n) (o .is) (order-below n listed (orderOf n listed) (order-exactly n listed (orderOf n listed) .it-does refl) (o .at) (omega (arith, o .below)))
 
-  pub sweep-next : (at from : ℕ) (r : Sweep) → at ≤ from → Skips test slots at from → Settled class n listed slots from r
-      → firstThat test (drop (r .at) (take n slots)) ≡ firstThat test (drop at (take n slots))
-  sweep-next at from r l miss s =
-      sym (first-skips test n slots (o .order-fit) at (r .at) (omega (arith, s .from)) (s .sweeping .within)
-      (skips-join test slots at from (r .at) miss
-      (skips-narrow (inClass class listed) test slots from (r .at) narrow (s .skips))))
+-- ---- the order list place after place
+-- the product of atom a with the pair at a place
+abbrev pub atPlace : ℕ → List ℕ → ℕ → Product
+atPlace a order k = Product.ofPair a (getD order k 0)
+
+module _ (f : Forms) (test : Product → Bool) (a n : ℕ) (best r : Best) where
+  pub places-all : (order : List ℕ) → n ≤ length order → (j : ℕ) → j ≡ n → TriedTo f test (atPlace a order) 0 j best r → Tried f test (map (Product.ofPair a) (take n order)) best r
+  places-all order fit j e t =
+      let m : j - 0 ≡ n = omega arith in
+      subst (λ (l : List Product). Tried f test l best r)
+      (ap (λ (k : ℕ). map (atPlace a order) (countUp 0 k)) m ∙ sym (take-places (Product.ofPair a) order n fit)) t
+
+  pub slots-all : (j : ℕ) → j ≡ n → TriedTo f test (Product.ofPair a) 0 j best r → Tried f test (map (Product.ofPair a) (countUp 0 n)) best r
+  slots-all j e t =
+      let m : j - 0 ≡ n = omega arith in
+      subst (λ (k : ℕ). Tried f test (map (Product.ofPair a) (countUp 0 k)) best r) m t
+
+  -- none fits
+  pub none-kept : (l : List ℕ) → ((s : ℕ) → test (Product.ofPair a s) ≡ false) → best ≡ r → Tried f test (map (Product.ofPair a) l) best r
+  none-kept l fails e o k =
+      subst (λ (p : Option Product). Keeps f p r)
+      (sym (least-fails test (cheaper f) o (map (Product.ofPair a) l) (λ x i. let p = map-in (Product.ofPair a) x l i in ap test (p .is) ∙ fails (p .of))))
+      (subst (Keeps f o) e k)

@@ -2,15 +2,12 @@
 use mathlib.Core.Path.{_≡_}
 use mathlib.Core.Bool.{Bool, true, false}
 use mathlib.Core.List.{List}
-use mathlib.Core.Option.{Option, none, some}
 use Prim.Native.Nat.{ℕ, _≤_, _<_}
 use lib.ListN.{getD}
 use Rattle.search_filter.specs.declared.inner.Residue.{Residue}
 use Rattle.search_filter.specs.Places.{Skips}
 use Rattle.search_filter.specs.Sweeps.{inClass}
 use Rattle.search_product_trial.specs.Steps.{fitsAt}
-use Rattle.search_product_pairs.specs.declared.inner.PairFit.{PairFit}
-use Rattle.search_product_pairs.specs.declared.inner.PairFit.the-variants.{At, Nothing}
 use Rattle.search_product_pairs.specs.declared.inner.RunStop.{RunStop}
 
 -- what fits atom a is of the class
@@ -24,8 +21,3 @@ pub record Stopped (test : ℕ → Bool) (n : ℕ) (order : List ℕ) (at : ℕ)
   pub skips : Skips test order at (r .at)
   pub hit : r .fits ≡ true → (r .at < n) × (test (getD order (r .at) 0) ≡ true)
   pub past : r .fits ≡ false → at < r .at
-
--- what each case of an answer says
-abbrev pub pairSays : PairFit → Option ℕ
-pairSays (At s) = some (s .0)
-pairSays Nothing = none

@@ -1,27 +1,20 @@
-// What the product search calls with rows, counts and an order list that it has tested.
+// What the product search calls with rows, counts, formulas and an order list that it has tested.
 use row_gates::ROW_WORDS;
-use row_lent::AtomSlot;
-use row_lent::PairSlot;
 use search_equation::inner::Solution;
 use search_filter::inner::Residue;
-use search_product_trial::inner::Found;
-ghost use mathlib.Core.Path.{_≡_};
+use search_product_trial::inner::Best;
+ghost use mathlib.Core.List.{map};
 ghost use Prim.Native.Nat.{_+_, _*_, _≤_, _<_};
 ghost use lib.ListN.{length, take, getD};
-ghost use Rattle.arrays.specs.Lists.{countUp, firstThat};
+ghost use Rattle.arrays.specs.Lists.{countUp};
 ghost use Rattle.index_order.specs.Order.{firstWord};
 ghost use Rattle.search_filter.specs.Places.{Ordered, Sampled};
 ghost use Rattle.search_filter.specs.Sweeps.{Small};
-ghost use Rattle.search_product_trial.specs.Trying.{fitting, slotsFor, withPairs};
-ghost use Rattle.search_product_trial.specs.Stages.{Lent, foundSays};
-ghost use Rattle.search_product_trial.specs.Steps.{fitsAt, Target};
-ghost use Rattle.search_product_pairs.specs.Steps.{Narrows, Stopped, pairSays};
-
-// The first listed pair that fits an atom.
-enum PairFit {
-    At(PairSlot),
-    Nothing,
-}
+ghost use Rattle.search_product_forms.specs.Written.{forms, Written, Paired};
+ghost use Rattle.search_product_trial.specs.Trying.{Product, fitting, slotsFor, withPairs};
+ghost use Rattle.search_product_trial.specs.Stages.{Lent, Tried};
+ghost use Rattle.search_product_trial.specs.Steps.{fitsAt, Target, Next};
+ghost use Rattle.search_product_pairs.specs.Steps.{Narrows, Stopped};
 
 // Where a walk over a run stops: at the first place that fits, or after the run.
 struct RunStop {
@@ -34,6 +27,9 @@ const SAMPLES_MAX: usize = 4096;
 
 // With no more pairs than these, the samples cost more than they save.
 const UNSAMPLED_MAX: usize = 16384;
+
+// An atom's product with a pair has four tokens more than the atom at least.
+const OTHER_TOKENS: u32 = 4;
 
 // Walks the run of places from `at` on that share one first word, up to the first whose pair fits atom a. The second words sort out most.
 fn walk_run(
@@ -69,10 +65,16 @@ fn walk_run(
     RunStop { at: k, fits: false }
 }
 
-// The first listed pair, by the order list, that fits atom a: none does but those of the class.
-fn first_of_class(
+// Atom a with the listed pairs, by the order list: none fits but those of the class.
+fn try_class(
+    best: Best,
     atoms: &[u64],
+    lengths: &[u32],
+    ops: &[u8],
+    operands: &[u64],
+    count: usize,
     a: usize,
+    pairs: &[u32],
     listed: &[u64],
     order: &[u32],
     n: usize,
@@ -81,53 +83,119 @@ fn first_of_class(
     class: Residue,
     target: &[u64],
     w: u32,
-) -> PairFit
-    requires { ⌜ Ordered n (now listed) (now order) × Sampled n (now listed) (now order) (now samples) m × Small class × Narrows w (now target) (now atoms) a (now listed) class × (16 * a + 16 ≤ length (now atoms)) × Target w (now target) ⌝ }
-    ensures { λ r. ⌜ pairSays r ≡ firstThat (fitsAt w (now (target .entry)) (now (atoms .entry)) a (now (listed .entry))) (take n (now (order .entry))) ⌝ }
+) -> Best
+    requires { ⌜ Lent w count (now atoms) n (now listed) (now order) (now target) (forms (now lengths) (now ops) (now operands) (now pairs)) × Sampled n (now listed) (now order) (now samples) m × Small class × Narrows w (now target) (now atoms) a (now listed) class × (a < count) ⌝ }
+    ensures { λ r. ⌜ Tried (forms (now (lengths .entry)) (now (ops .entry)) (now (operands .entry)) (now (pairs .entry))) (fitting w (now (atoms .entry)) (now (listed .entry)) (now (target .entry))) (map (Product.ofPair a) (take n (now (order .entry)))) best r ⌝ }
 {
+    let mut kept = best;
     let mut place = search_filter::inner::first_place(listed, order, n, samples, m, class);
     while place.at < n {
         let stop = walk_run(atoms, a, listed, order, n, place.at, target, w);
         let at = stop.at;
         if stop.fits {
-            return PairFit::At(PairSlot(order[at]));
+            let s = order[at] as usize;
+            kept = search_product_trial::inner::offer_pair(
+                kept,
+                lengths,
+                ops,
+                operands,
+                pairs,
+                count,
+                n,
+                a,
+                s,
+            );
+            place = search_filter::inner::next_from(
+                listed,
+                order,
+                n,
+                samples,
+                m,
+                class,
+                place,
+                at + 1,
+            );
+        } else {
+            place = search_filter::inner::next_from(listed, order, n, samples, m, class, place, at);
         }
-        place = search_filter::inner::next_from(listed, order, n, samples, m, class, place, at);
     }
-    PairFit::Nothing
+    kept
 }
 
-// The first listed pair, by slot, that fits atom a. The second words sort out most: where no filter is used, any first word may fit.
-fn first_by_slot(
+// The first pair from slot `from` on that fits atom a; n if none does. The second words sort out most: where no filter is used, any first word may fit.
+fn next_slot(
     atoms: &[u64],
     a: usize,
     listed: &[u64],
+    from: usize,
     n: usize,
     target: &[u64],
     w: u32,
-) -> PairFit
-    requires { ⌜ (16 * a + 16 ≤ length (now atoms)) × (n ≤ 262144) × (16 * n ≤ length (now listed)) × Target w (now target) ⌝ }
-    ensures { λ r. ⌜ pairSays r ≡ firstThat (fitsAt w (now (target .entry)) (now (atoms .entry)) a (now (listed .entry))) (countUp 0 n) ⌝ }
+) -> usize
+    requires { ⌜ (16 * a + 16 ≤ length (now atoms)) × (n ≤ 262144) × (16 * n ≤ length (now listed)) × Target w (now target) × (from ≤ n) ⌝ }
+    ensures { λ r. ⌜ Next (fitsAt w (now (target .entry)) (now (atoms .entry)) a (now (listed .entry))) n from r ⌝ }
 {
     let p = atoms[ROW_WORDS * a + 1];
     let t = target[1];
-    let mut s: usize = 0;
+    let mut s = from;
     while s < n {
         if arith::mod_mul(p, listed[ROW_WORDS * s + 1], w) == t {
             if search_product_trial::inner::fits(atoms, a, listed, s, target, w) {
-                let slot = s as u32;
-                return PairFit::At(PairSlot(slot));
+                return s;
             }
         }
         s += 1;
     }
-    PairFit::Nothing
+    s
 }
 
-// The first listed pair, in the order in which they are tried with atom a, that fits it.
-fn first_pair(
+// Atom a with the listed pairs, by slot.
+fn try_slots(
+    best: Best,
     atoms: &[u64],
+    lengths: &[u32],
+    ops: &[u8],
+    operands: &[u64],
+    count: usize,
     a: usize,
+    pairs: &[u32],
+    listed: &[u64],
+    n: usize,
+    target: &[u64],
+    w: u32,
+) -> Best
+    requires { ⌜ Written count (forms (now lengths) (now ops) (now operands) (now pairs)) × Paired count n (forms (now lengths) (now ops) (now operands) (now pairs)) × (16 * count ≤ length (now atoms)) × (n ≤ 262144) × (16 * n ≤ length (now listed)) × Target w (now target) × (a < count) ⌝ }
+    ensures { λ r. ⌜ Tried (forms (now (lengths .entry)) (now (ops .entry)) (now (operands .entry)) (now (pairs .entry))) (fitting w (now (atoms .entry)) (now (listed .entry)) (now (target .entry))) (map (Product.ofPair a) (countUp 0 n)) best r ⌝ }
+{
+    let mut kept = best;
+    let mut s = next_slot(atoms, a, listed, 0, n, target, w);
+    while s < n {
+        kept = search_product_trial::inner::offer_pair(
+            kept,
+            lengths,
+            ops,
+            operands,
+            pairs,
+            count,
+            n,
+            a,
+            s,
+        );
+        s = next_slot(atoms, a, listed, s + 1, n, target, w);
+    }
+    kept
+}
+
+// Atom a with the listed pairs, in the order in which they are tried with it. One that has too many tokens by itself is passed over.
+fn try_pairs(
+    best: Best,
+    atoms: &[u64],
+    lengths: &[u32],
+    ops: &[u8],
+    operands: &[u64],
+    count: usize,
+    a: usize,
+    pairs: &[u32],
     listed: &[u64],
     order: &[u32],
     n: usize,
@@ -135,10 +203,13 @@ fn first_pair(
     m: usize,
     target: &[u64],
     w: u32,
-) -> PairFit
-    requires { ⌜ Ordered n (now listed) (now order) × Sampled n (now listed) (now order) (now samples) m × (16 * a + 16 ≤ length (now atoms)) × Target w (now target) ⌝ }
-    ensures { λ r. ⌜ pairSays r ≡ firstThat (fitsAt w (now (target .entry)) (now (atoms .entry)) a (now (listed .entry))) (slotsFor w (firstWord (now (atoms .entry)) a) (getD (now (target .entry)) 0 0) n (now (listed .entry))) ⌝ }
+) -> Best
+    requires { ⌜ Lent w count (now atoms) n (now listed) (now order) (now target) (forms (now lengths) (now ops) (now operands) (now pairs)) × Sampled n (now listed) (now order) (now samples) m × (a < count) ⌝ }
+    ensures { λ r. ⌜ Tried (forms (now (lengths .entry)) (now (ops .entry)) (now (operands .entry)) (now (pairs .entry))) (fitting w (now (atoms .entry)) (now (listed .entry)) (now (target .entry))) (map (Product.ofPair a) (slotsFor w (firstWord (now (atoms .entry)) a) (getD (now (target .entry)) 0 0) n (now (listed .entry)))) best r ⌝ }
 {
+    if !best.may_beat(lengths[a] + OTHER_TOKENS) {
+        return best;
+    }
     let p = arith::reduce(atoms[ROW_WORDS * a], w);
     let t = target[0];
     if search_equation::inner::is_used(p, t) {
@@ -146,20 +217,42 @@ fn first_pair(
         match solution {
             Solution::Class { bits, first } => {
                 let class = Residue { w, bits, first };
-                return first_of_class(atoms, a, listed, order, n, samples, m, class, target, w);
+                return try_class(
+                    best,
+                    atoms,
+                    lengths,
+                    ops,
+                    operands,
+                    count,
+                    a,
+                    pairs,
+                    listed,
+                    order,
+                    n,
+                    samples,
+                    m,
+                    class,
+                    target,
+                    w,
+                );
             }
             Solution::Nothing => {
-                return PairFit::Nothing;
+                return best;
             }
         }
     }
-    first_by_slot(atoms, a, listed, n, target, w)
+    try_slots(best, atoms, lengths, ops, operands, count, a, pairs, listed, n, target, w)
 }
 
 // Every atom, ascending, with every listed pair. m samples narrow each look-up in the order list.
 fn search_pairs(
+    best: Best,
     atoms: &[u64],
+    lengths: &[u32],
+    ops: &[u8],
+    operands: &[u64],
     count: usize,
+    pairs: &[u32],
     listed: &[u64],
     order: &[u32],
     n: usize,
@@ -167,59 +260,122 @@ fn search_pairs(
     m: usize,
     target: &[u64],
     w: u32,
-) -> Found
-    requires { ⌜ Lent w count (now atoms) n (now listed) (now order) (now target) × Sampled n (now listed) (now order) (now samples) m ⌝ }
-    ensures { λ r. ⌜ foundSays r ≡ firstThat (fitting w (now (atoms .entry)) (now (listed .entry)) (now (target .entry))) (withPairs w count (now (atoms .entry)) n (now (listed .entry)) (now (target .entry))) ⌝ }
+) -> Best
+    requires { ⌜ Lent w count (now atoms) n (now listed) (now order) (now target) (forms (now lengths) (now ops) (now operands) (now pairs)) × Sampled n (now listed) (now order) (now samples) m ⌝ }
+    ensures { λ r. ⌜ Tried (forms (now (lengths .entry)) (now (ops .entry)) (now (operands .entry)) (now (pairs .entry))) (fitting w (now (atoms .entry)) (now (listed .entry)) (now (target .entry))) (withPairs w count (now (atoms .entry)) n (now (listed .entry)) (now (target .entry))) best r ⌝ }
 {
+    let mut kept = best;
     let mut a: usize = 0;
     while a < count {
-        let fit = first_pair(atoms, a, listed, order, n, samples, m, target, w);
-        let slot = a as u32;
+        kept = try_pairs(
+            kept,
+            atoms,
+            lengths,
+            ops,
+            operands,
+            count,
+            a,
+            pairs,
+            listed,
+            order,
+            n,
+            samples,
+            m,
+            target,
+            w,
+        );
         a += 1;
-        match fit {
-            PairFit::At(s) => {
-                return Found::AtomPair(AtomSlot(slot), s);
-            }
-            PairFit::Nothing => {}
-        }
     }
-    Found::Nothing
+    kept
 }
 
 // The second stage, with samples.
 fn sampled_pairs(
+    best: Best,
     atoms: &[u64],
+    lengths: &[u32],
+    ops: &[u8],
+    operands: &[u64],
     count: usize,
+    pairs: &[u32],
     listed: &[u64],
     order: &[u32],
     n: usize,
     target: &[u64],
     w: u32,
-) -> Found
-    requires { ⌜ Lent w count (now atoms) n (now listed) (now order) (now target) ⌝ }
-    ensures { λ r. ⌜ foundSays r ≡ firstThat (fitting w (now (atoms .entry)) (now (listed .entry)) (now (target .entry))) (withPairs w count (now (atoms .entry)) n (now (listed .entry)) (now (target .entry))) ⌝ }
+) -> Best
+    requires { ⌜ Lent w count (now atoms) n (now listed) (now order) (now target) (forms (now lengths) (now ops) (now operands) (now pairs)) ⌝ }
+    ensures { λ r. ⌜ Tried (forms (now (lengths .entry)) (now (ops .entry)) (now (operands .entry)) (now (pairs .entry))) (fitting w (now (atoms .entry)) (now (listed .entry)) (now (target .entry))) (withPairs w count (now (atoms .entry)) n (now (listed .entry)) (now (target .entry))) best r ⌝ }
 {
     let mut samples: [u64; SAMPLES_MAX] = [0; SAMPLES_MAX];
     let m = search_filter::inner::sample(&mut samples, listed, order, n);
-    search_pairs(atoms, count, listed, order, n, &samples, m, target, w)
+    search_pairs(
+        best,
+        atoms,
+        lengths,
+        ops,
+        operands,
+        count,
+        pairs,
+        listed,
+        order,
+        n,
+        &samples,
+        m,
+        target,
+        w,
+    )
 }
 
-// The second stage. Few pairs are searched with no samples.
+// The second stage, from what the first kept. Few pairs are searched with no samples.
 pub fn atom_and_pair(
+    best: Best,
     atoms: &[u64],
+    lengths: &[u32],
+    ops: &[u8],
+    operands: &[u64],
     count: usize,
+    pairs: &[u32],
     listed: &[u64],
     order: &[u32],
     n: usize,
     target: &[u64],
     w: u32,
-) -> Found
-    requires { ⌜ Lent w count (now atoms) n (now listed) (now order) (now target) ⌝ }
-    ensures { λ r. ⌜ foundSays r ≡ firstThat (fitting w (now (atoms .entry)) (now (listed .entry)) (now (target .entry))) (withPairs w count (now (atoms .entry)) n (now (listed .entry)) (now (target .entry))) ⌝ }
+) -> Best
+    requires { ⌜ Lent w count (now atoms) n (now listed) (now order) (now target) (forms (now lengths) (now ops) (now operands) (now pairs)) ⌝ }
+    ensures { λ r. ⌜ Tried (forms (now (lengths .entry)) (now (ops .entry)) (now (operands .entry)) (now (pairs .entry))) (fitting w (now (atoms .entry)) (now (listed .entry)) (now (target .entry))) (withPairs w count (now (atoms .entry)) n (now (listed .entry)) (now (target .entry))) best r ⌝ }
 {
     if n > UNSAMPLED_MAX {
-        return sampled_pairs(atoms, count, listed, order, n, target, w);
+        return sampled_pairs(
+            best,
+            atoms,
+            lengths,
+            ops,
+            operands,
+            count,
+            pairs,
+            listed,
+            order,
+            n,
+            target,
+            w,
+        );
     }
     let none: [u64; 1] = [0; 1];
-    search_pairs(atoms, count, listed, order, n, &none, 0, target, w)
+    search_pairs(
+        best,
+        atoms,
+        lengths,
+        ops,
+        operands,
+        count,
+        pairs,
+        listed,
+        order,
+        n,
+        &none,
+        0,
+        target,
+        w,
+    )
 }

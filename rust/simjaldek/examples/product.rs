@@ -11,7 +11,7 @@ pub const USAGE: &str = "usage: product VARIABLES WIDTH FORMULA
 VARIABLES 1 to 6, WIDTH 1 to 64, FORMULA one argument in postfix: product 2 32 'v0 v0 * v0 v1 * +'";
 
 /// What a product is among those that fit.
-const AMONG: &str = "the cheapest product of two atoms, or of an atom and a listed pair, with these values; a shorter formula of another form may exist";
+const AMONG: &str = "the cheapest product of two atoms, or of an atom and a listed pair, with these values; a shorter formula may exist";
 
 fn main() -> ExitCode {
     common::print(run, USAGE)

@@ -40,7 +40,7 @@ impl ProductAnswer<'_> {
         self.postfix_and_cost().map(|(_, cost)| cost)
     }
 
-    /// The product written out in postfix, ready to load, and its cost; none for nothing.
+    /// The product written out in postfix, ready to load once it was compared beyond the points, and its cost; none for nothing.
     pub fn postfix_and_cost(self) -> Option<(FormulaBuf, Cost)> {
         self.postfix().map(with_cost)
     }
@@ -55,9 +55,9 @@ impl ProductAnswer<'_> {
     }
 }
 
-/// What the residual search answers, in the atoms and pairs that it searched: the outer gate, Xor or Add, the atom that is completed, and
-/// what completes it; the first in the order of the search, not the cheapest. Answers are equal within one index; across copies compare [`slots`](CompletionAnswer::slots) or
-/// [`postfix`](CompletionAnswer::postfix).
+/// What the residual search answers, in the atoms and pairs that it searched: the outer gate, Xor or Add, the atom that is completed,
+/// and what completes it; the first in the order of the search, not the cheapest. Answers are equal within one index; across copies
+/// compare [`slots`](CompletionAnswer::slots) or [`postfix`](CompletionAnswer::postfix).
 #[derive(Clone, Copy, Debug, PartialEq, Eq)]
 pub enum CompletionAnswer<'i> {
     /// Two atoms whose xor or sum has the row.

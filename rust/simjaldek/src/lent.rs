@@ -2,8 +2,8 @@
 //! what the table has is refused, and then no buffer has changed. Places beyond the counts stay as they were.
 //!
 //! **Not tested**: that atoms, pairs, points, target and width belong together, that a claimed count is the one that was built, that a
-//! lent row is its formula's or its pair's, and that it is below 2^w. Such a call answers for the words that it gets. [`Bank`](crate::Bank) and [`Index`](crate::Index) keep
-//! together what belongs together.
+//! lent row is its formula's or its pair's, and that it is below 2^w. Such a call answers for the words that it gets.
+//! [`Bank`](crate::Bank) and [`Index`](crate::Index) keep together what belongs together.
 //!
 //! A gate's number is 0 And, 1 Or, 2 Xor, 3 Add, 4 Mul; these are not the opcodes of tokens (2 Add, 3 Mul, 4 And, 5 Or, 6 Xor).
 //!

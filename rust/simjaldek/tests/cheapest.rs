@@ -130,7 +130,7 @@ impl Lent {
         let mut equal = Vec::new();
         for &product in &fitting {
             let cost = cost_of(&self.written(product));
-            if kept.is_none_or(|(least, _)| cost < least) {
+            if kept.map_or(true, |(least, _)| cost < least) {
                 kept = Some((cost, product));
                 equal.clear();
             }
@@ -185,7 +185,7 @@ struct Kinds {
     as_large: [usize; 2],
     /// Of pairs with the same atom that cost as little, the least slot isn't shown.
     not_least_slot: usize,
-    /// As many such pairs, "not used", and the one with the least first word isn't shown.
+    /// The same of the least first word, where the rule says "not used".
     not_least_word: usize,
 }
 
@@ -368,6 +368,19 @@ fn p2_every_target() {
     assert_eq!((kinds.nothing, kinds.not_first), (196, 23), "{kinds:?}");
 }
 
+/// An index lists one pair for a row, the first: the whole index of P2 has c1 ^ !v0, and c2 ^ v0, which costs less, has the same row.
+#[test]
+fn a_pair_that_is_not_listed() {
+    let bank = p2();
+    let index = Index::build(&bank, PAIRS_MAX).unwrap();
+    let cheaper: FormulaBuf = "c1 c2 v0 ^ *".parse().unwrap();
+    let answer = index.product_for(cheaper.as_formula()).unwrap();
+    let (formula, cost) = answer.postfix_and_cost().expect("a product");
+    assert_eq!(formula.to_string(), "c1 c1 v0 ! ^ *");
+    let tokens: Vec<Token> = cheaper.as_formula().tokens().collect();
+    assert!(cost_of(&tokens) < numbers(cost));
+}
+
 #[test]
 fn nothing_costs_nothing() {
     for certain in [true, false] {
@@ -447,7 +460,8 @@ fn size_then_products_then_depth() {
     assert!(!chosen(["c3", "v0 ! !"], ["v0", "v1"]));
     assert!(chosen(["c3", "v0 ! !"], ["c3 !", "v0 !"]));
     assert!(!chosen(["c3 !", "v0 !"], ["c3", "v0 ! !"]));
-    // 6 1 3 against 5 0 4: the size alone
+    // 5 1 2 against 6 0 5, and 6 1 3 against 5 0 4: the size alone
+    assert!(!chosen(["v0", "v1"], ["c3", "v0 ! ! !"]));
     assert!(chosen(["v0 !", "v1"], ["c3", "v0 ! !"]));
     // a variable anywhere below counts, and only one
     assert!(chosen(["v0 v0 ^", "v1"], ["c3 c4 ^", "v1"]));

@@ -19,11 +19,11 @@ const HEAD: &str = "/* The static library of Simjaldek, for C programs; docs/CAL
    Made from the exports of crates/simjaldek and crates/simjaldek_abi by rust/simjaldek/tests/header.rs.
 
    What an answer means: a product, or a completion by xor or sum, has the target's words at the sixteen points and may
-   differ elsewhere, so compare the formulas beyond the points. A product is the cheapest of those that fit, by the cost of the
-   whole formula written out, and among equals the first in the order of the search; a completion is the first that fits, not
-   the cheapest. \"Nothing\" is certain only with a whole index of these very atoms at this width, for completions only where a
-   bank build left the atoms, or their rows are below 2^w, or one of them is 0 modulo 2^w. That arrays, counts and widths belong
-   together is not tested.
+   differ elsewhere, so compare the formulas beyond the points. A product is the cheapest that fits of two atoms and of an atom
+   and a listed pair, by the cost of the whole formula written out, and among equals the first in the order of the search; a
+   completion is the first that fits, not the cheapest. \"Nothing\" is certain only with a whole index of these very atoms at this
+   width, for completions only where a bank build left the atoms, or their rows are below 2^w, or one of them is 0 modulo 2^w.
+   That arrays, counts and widths belong together is not tested.
 
    Opcodes: 0 constant, 1 variable, 2 Add, 3 Mul, 4 And, 5 Or, 6 Xor, 7 Not, 8 Neg. Gates have numbers of their own: 0 And,
    1 Or, 2 Xor, 3 Add, 4 Mul.

@@ -26,7 +26,7 @@ Both have the same values at the sixteen points. Elsewhere is unknown: compare t
 fn a_product_that_is_not_better() {
     let text = run(&["1", "8", "v0"]).unwrap();
     assert!(
-        text.contains("\nproduct c1 v0 *\ncost 3 0 2, not better than the formula's (it is the cheapest product of two atoms, or of an atom and a listed pair, with these values; a shorter formula of another form may exist)\n"),
+        text.contains("\nproduct c1 v0 *\ncost 3 0 2, not better than the formula's (it is the cheapest product of two atoms, or of an atom and a listed pair, with these values; a shorter formula may exist)\n"),
         "{text}"
     );
 }

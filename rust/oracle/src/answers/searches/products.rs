@@ -260,7 +260,7 @@ fn other_widths(file: &mut DataFile, inputs: &mut Inputs) {
     }
 }
 
-/// Lines for rows with a property that any product may have, over whole indexes.
+/// Lines for rows with a property that any product may have, over whole indexes; of a bank at most one.
 fn drawn_lines(
     file: &mut DataFile,
     inputs: &mut Inputs,
@@ -268,11 +268,12 @@ fn drawn_lines(
 ) {
     let mut found = 0;
     while found < DRAWN {
-        let bank = small_bank(inputs, 1 + found as u32 % 3);
+        let num_vars = inputs.one_of(&[1, 2, 3]);
+        let bank = small_bank(inputs, num_vars);
         let width = bank.width;
         let searched = Searched::new(bank, width, LIMIT_MAX);
-        let row = any_product(inputs, &searched.setting);
-        if is_wanted(&searched.setting, &row) {
+        let mut rows = (0..DRAWS).map(|_| any_product(inputs, &searched.setting));
+        if let Some(row) = rows.find(|row| is_wanted(&searched.setting, row)) {
             line(file, &searched, row);
             found += 1;
         }

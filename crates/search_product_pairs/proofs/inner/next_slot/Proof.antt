@@ -1,23 +1,21 @@
--- `search_product_pairs::inner::first_by_slot` meets its contract: from slot s on the first that fits is the first of all. Where the second products differ none
--- fits. Assumes nothing.
+-- `search_product_pairs::inner::next_slot` meets its contract: nothing fits up to slot s. Where the second products differ none fits. Assumes nothing.
 use mathlib.Core.Path.{_≡_, sym, _∙_}
 use mathlib.Core.Bool.{false}
 use mathlib.Core.Logic.{inl, inr}
-use Prim.Native.Nat.{_-_, _≤_}
-use Rattle.arrays.specs.Lists.{countUp, firstThat}
+use Prim.Native.Nat.{ℕ, _-_, _≤_, _<_}
 use Rattle.search_product_trial.specs.Steps.{fitsAt}
 use Rattle.search_product_trial.proofs.Trials.{fits-not}
-use Rattle.arrays.proofs.Lists.{up-start, up-hit, up-miss, up-end}
-use borrow.Author.Needs.{needs}
+use Rattle.search_product_trial.proofs.Firsts.{skip-more}
 use native.Mathlib.Omega.{arith}
-use Rattle.search_product_pairs.proofs.inner.first_by_slot.Statement.{statement}
-use Rattle.search_product_pairs.proofs.inner.first_by_slot.Tie as tie
+use borrow.Author.Needs.{needs}
+use Rattle.search_product_pairs.proofs.inner.next_slot.Statement.{statement}
+use Rattle.search_product_pairs.proofs.inner.next_slot.Tie as tie
 
 abbrev Inv-loop : tie.InvT-loop
-Inv-loop atoms a listed n target w p t s₀ s = (s ≤ n) × (firstThat (fitsAt w target atoms a listed) (countUp s (n - s)) ≡ firstThat (fitsAt w target atoms a listed) (countUp 0 n))
+Inv-loop atoms a listed from n target w p t s₀ s = (from ≤ s) × (s ≤ n) × ((k : ℕ) → from ≤ k → k < s → fitsAt w target atoms a listed k ≡ false)
 
 abbrev μ-loop : tie.MeasureT-loop
-μ-loop atoms a listed n target w p t s₀ s = n - s
+μ-loop atoms a listed from n target w p t s₀ s = n - s
 
 mul-p : tie.Need-mul-p Inv-loop μ-loop
 mul-p c = search needs
@@ -38,8 +36,8 @@ shared-slice-read-t c =
 
 loop-holds : tie.Need-loop-holds Inv-loop μ-loop
 loop-holds c =
-    let a = c .before .before .before .before .before .args in
-    (omega arith, up-start (fitsAt (a .w) (a .target .now) (a .atoms .now) (a .a) (a .listed .now)) (a .n))
+    let s = c .before .before .before .before .before in
+    (omega arith, s .pre .4, λ k l h. absurd (omega arith))
 
 mul-mod-mul : tie.Need-mul-mod-mul Inv-loop μ-loop
 mul-mod-mul c = search needs
@@ -61,15 +59,10 @@ fits-requires c κs =
     let s = c .before .before .before .before .before .before .before .before .before .before in
     (s .pre .0, omega (arith, s .pre .2, c .before .before .before .loop-test .taken), s .pre .3)
 
-cast-slot : tie.Need-cast-slot Inv-loop μ-loop
-cast-slot c = search needs
-
 returns : tie.Need-returns Inv-loop μ-loop
 returns c =
     let l = c .before .before .before .before .before .before .loop in
-    let a = c .before .before .before .before .before .before .before .before .before .before .before .before .args in
-    let test = fitsAt (a .w) (a .target .now) (a .atoms .now) (a .a) (a .listed .now) in
-    sym (up-hit test (a .n) (l .s) (omega arith) (sym (c .before .fits2 .ensures) ∙ c .if2 .taken)) ∙ l .inv .1
+    record { from = l .inv .0; to = l .inv .1; skips = l .inv .2; stops = λ _. sym (c .before .fits2 .ensures) ∙ c .if2 .taken }
 
 add-s : tie.Need-add-s Inv-loop μ-loop
 add-s c = search needs
@@ -81,24 +74,22 @@ loop-again : tie.Need-loop-again Inv-loop μ-loop
 loop-again c =
     let r = c .before in
     let l = r .before .before .before .loop in
-    let s = r .before .before .before .before .before .before .before .before .before in
+    let s = c .before .before .before .before .before .before .before .before .before .before in
     let a = s .args in
     let test = fitsAt (a .w) (a .target .now) (a .atoms .now) (a .a) (a .listed .now) in
     let miss : test (l .s) ≡ false = elim (c .if1 .came) [
       | inl y ↦ sym (y .1 .ensures) ∙ y .2 .left
       | inr n ↦ fits-not (a .w) (a .target .now) (a .atoms .now) (a .listed .now) (a .a) (l .s) (s .pre .3) 1 (r .mod-mul .result) (omega arith) (r .mod-mul .ensures) (n .left)
     ] in
-    (omega arith, up-miss test (a .n) (l .s) (omega arith) miss ∙ l .inv .1)
+    (omega (arith, l .inv .0), omega (arith, r .before .before .loop-test .taken), skip-more test (a .from) (l .s) (l .inv .2) miss)
 
 returns-2 : tie.Need-returns-2 Inv-loop μ-loop
 returns-2 c =
     let l = c .before .loop in
-    let a = c .before .before .before .before .before .before .before .args in
-    let test = fitsAt (a .w) (a .target .now) (a .atoms .now) (a .a) (a .listed .now) in
-    sym (up-end test (a .n) (l .s) (omega arith)) ∙ l .inv .1
+    record { from = l .inv .0; to = l .inv .1; skips = l .inv .2; stops = λ h. absurd (omega (arith, h, c .loop-test .left)) }
 
-pub first-by-slot-spec : {M : Type 1} → statement M
-first-by-slot-spec =
+pub next-slot-spec : {M : Type 1} → statement M
+next-slot-spec =
     tie.close
     (tie.spec
     Inv-loop
@@ -115,7 +106,6 @@ first-by-slot-spec =
     shared-slice-read-mod-mul
     mod-mul-requires
     fits-requires
-    cast-slot
     returns
     add-s
     loop-less
