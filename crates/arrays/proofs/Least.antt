@@ -10,7 +10,7 @@ use lib.ListN.{length, getD, take, length-map}
 use lib.Seq.{ext-getD, getD-take, length-take-le}
 use Rattle.arrays.specs.Lists.{In, countUp}
 use Rattle.arrays.specs.Least.{kept, keepLeast, leastThat, IsLeast, Ranks}
-use Rattle.arrays.proofs.Lists.{false-true, bool-cases, is-false, in-split, map-in, count-add, count-end, count-in, getD-count, getD-map, length-count}
+use Rattle.arrays.proofs.Lists.{false-true, bool-cases, is-false, in-right, in-split, map-in, count-add, count-end, count-in, getD-count, getD-map, length-count}
 
 module _ {A : Type 0} (test : A → Bool) (better : A → A → Bool) where
   -- ---- one element
@@ -247,3 +247,41 @@ take-places f l n h =
   where
     zero-plus : (k : ℕ) → 0 + k ≡ k
     zero-plus k = omega arith
+
+-- ---- the least is shown: no other is
+-- of two elements in one list one is the other, or stands before it
+head-or : {A : Type 0} → A → List A → A
+head-or d [] = d
+head-or d (x ∷ l) = x
+
+tail-of : {A : Type 0} → List A → List A
+tail-of [] = []
+tail-of (x ∷ l) = l
+
+split-two : {A : Type 0} (xs ys ls ms : List A) (x y : A) → xs ++ (x ∷ ls) ≡ ys ++ (y ∷ ms) → (x ≡ y) ⊎ (In x ys ⊎ In y xs)
+unfolding head-or tail-of
+split-two [] [] ls ms x y e = inl (ap (head-or x) e)
+split-two [] (v ∷ ys) ls ms x y e = inr (inl (inl (ap (head-or x) e)))
+split-two (u ∷ xs) [] ls ms x y e = inr (inr (inl (sym (ap (head-or y) e))))
+split-two (u ∷ xs) (v ∷ ys) ls ms x y e = elim (split-two xs ys ls ms x y (ap tail-of e)) [
+  | inl q ↦ inl q
+  | inr (inl i) ↦ inr (inl (inr i))
+  | inr (inr i) ↦ inr (inr (inr i))
+]
+
+module _ {A : Type 0} (test : A → Bool) (better : A → A → Bool) (ranks : Ranks better) where
+  pub least-is : (l : List A) (x : A) → IsLeast test better l x → leastThat test better l ≡ some x
+  least-is l x least = go (leastThat test better l) refl
+    where
+      place : (y : A) → IsLeast test better l y → In y l
+      place y other = subst (In y) (sym (other .stands)) (in-right y (other .earlier) (y ∷ other .later) (inl refl))
+
+      go : (o : Option A) → leastThat test better l ≡ o → o ≡ some x
+      go none e = absurd (false-true (sym (least-none test better l e x (place x least)) ∙ least .passes))
+      go (some y) e =
+          let other = is-least test better ranks l y e in
+          elim (split-two (least .earlier) (other .earlier) (least .later) (other .later) x y (sym (least .stands) ∙ other .stands)) [
+            | inl q ↦ ap (λ (u : A). some u) (sym q)
+            | inr (inl i) ↦ absurd (false-true (sym (none-better test better ranks l x y least (place y other) (other .passes)) ∙ other .dearer x i (least .passes)))
+            | inr (inr i) ↦ absurd (false-true (sym (none-better test better ranks l y x other (place x least) (least .passes)) ∙ least .dearer y i (other .passes)))
+          ]

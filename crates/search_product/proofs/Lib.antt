@@ -3,3 +3,4 @@ pub mod Passing
 pub mod Trials
 pub mod OwnPairs
 pub mod Nothing
+pub mod Cheap

@@ -66,13 +66,13 @@ module _ {w count : ℕ} {atoms : List ℕ} {L n : ℕ} {listed order : List ℕ
   }
 
 pub nothing-exactly : NothingExactly
-nothing-exactly w count atoms L n listed order target found own uncut long e =
-    let number = searchRefusal w count atoms n listed order target in
-    let done = answered number (tryEverything w count atoms n listed target) found e in
-    let fit : Fit w count atoms L = record { rows = none-refused w count atoms n listed order target (zero-of number (done .free)) long .atoms-fit } in (
-      λ is. no-product own fit target long uncut (nothing-fits w count atoms n listed target (done .is ∙ is)),
-      λ lacks. sym (done .is) ∙ fits-nothing w count atoms n listed target (none-fits own fit target long lacks),
+nothing-exactly w count atoms L n listed order target f found own uncut long e =
+    let number = searchRefusal w count atoms n listed order target f in
+    let done = answered number (tryEverything w count atoms n listed target f) found e in
+    let fit : Fit w count atoms L = record { rows = none-refused w count atoms n listed order target f (zero-of number (done .free)) long .atoms-fit } in (
+      λ is. no-product own fit target long uncut (nothing-fits w count atoms n listed target f (done .is ∙ is)),
+      λ lacks. sym (done .is) ∙ fits-nothing w count atoms n listed target f (none-fits own fit target long lacks),
     )
 
 pub demand-three : DemandThree
-demand-three w count atoms L n listed order target found bank = nothing-exactly w count atoms L n listed order target found
+demand-three w count atoms L n listed order target f found bank = nothing-exactly w count atoms L n listed order target f found

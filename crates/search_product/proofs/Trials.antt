@@ -1,23 +1,24 @@
 -- Laws of trying everything: what fits, which trials there are, and when none fits. Assumes nothing.
-use mathlib.Core.Path.{_≡_, refl, sym, ap, _∙_, subst}
-use mathlib.Core.Bool.{Bool, true, false, cond}
+use mathlib.Core.Path.{_≡_, sym, ap, _∙_}
+use mathlib.Core.Bool.{true, false}
 use mathlib.Core.Logic.{inl, inr}
 use mathlib.Core.List.{List, _++_, map}
 use mathlib.Core.Option.{none}
-use Prim.Native.Nat.{ℕ, _+_, _*_, _%_, _^_, _<_}
+use Prim.Native.Nat.{ℕ, _*_, _%_, _^_, _<_}
 use native.Mathlib.Omega.{arith}
 use lib.ListN.{length, getD, length-map}
 use lib.Seq.{ext-getD}
 use Rattle.arrays.specs.Lists.{countUp, In}
 use Rattle.arrays.specs.Parts.{partAt}
-use Rattle.arrays.proofs.Lists.{in-left, in-right, in-split, in-map, map-in, in-flat, flat-in, up-in, in-up, getD-map, in-at, in-place, first-none, none-passes}
+use Rattle.arrays.proofs.Lists.{in-left, in-right, in-split, in-map, map-in, in-flat, flat-in, up-in, in-up, getD-map}
+use Rattle.arrays.proofs.Least.{least-none, none-least}
 use Rattle.row_gates.specs.Gates.{gateOf, gateRow}
 use Rattle.row_gates.specs.declared.Gate.the-variants.{Mul}
 use Rattle.row_gates.proofs.Rows.{length-gateRow, getD-gateRow, same-row-eq, same-row-of}
-use Rattle.index_order.specs.Order.{firstWord, orderOf}
-use Rattle.index_order.proofs.OrderLaws.{order-length, order-exactly, order-below, order-once}
-use Rattle.search_equation.specs.Equation.{used}
-use Rattle.search_product_trial.specs.Trying.{Product, fits, fitting, slotsFor, withAtoms, withPairs, tryEverything}
+use Rattle.index_order.specs.Order.{firstWord}
+use Rattle.search_product_forms.specs.Forms.{Forms}
+use Rattle.search_product_trial.specs.Trying.{Product, fits, fitting, slotsFor, withAtoms, withPairs, trialsOf, cheaper, tryEverything}
+use Rattle.search_product_trial.proofs.Slots.{in-slots, slots-in}
 use Rattle.search_product.specs.Demand.{Equal}
 
 -- ---- a trial fits exactly if the products are equal to the target in all sixteen places
@@ -45,36 +46,6 @@ module _ (w : ℕ) (target a b : List ℕ) (long : length target ≡ 16) (long-a
       same-row-of (ext-getD 0 (gateRow Mul w a b) (map reduced target) (omega arith)
       (λ j h. product-at j (omega arith) ∙ e j (omega arith) ∙ sym (target-at j (omega arith))))
 
--- ---- both orders of the pair slots hold all slots below n, and no other
-module _ (w p t n : ℕ) (listed : List ℕ) where
-  in-order : (s : ℕ) → s < n → In s (orderOf n listed)
-  in-order s h =
-      let o = order-once n listed s h in
-      let l = order-length n listed in
-      subst (λ (k : ℕ). In k (orderOf n listed)) (o .is) (in-at 0 (orderOf n listed) (o .at) (omega (arith, o .within)))
-
-  order-in : (s : ℕ) → In s (orderOf n listed) → s < n
-  order-in s h =
-      let o = in-place 0 s (orderOf n listed) h in
-      let l = order-length n listed in
-      subst (λ (k : ℕ). k < n) (o .is) (order-below n listed (orderOf n listed) (order-exactly n listed (orderOf n listed) .it-does refl) (o .at) (omega (arith, o .below)))
-
-  pub in-slots : (s : ℕ) → s < n → In s (slotsFor w p t n listed)
-  unfolding slotsFor
-  in-slots s h = go (used (p % 2 ^ w) (t % 2 ^ w))
-    where
-      go : (b : Bool) → In s (cond b (orderOf n listed) (countUp 0 n))
-      go true = in-order s h
-      go false = up-in n s h
-
-  pub slots-in : (s : ℕ) → In s (slotsFor w p t n listed) → s < n
-  unfolding slotsFor
-  slots-in s h = go (used (p % 2 ^ w) (t % 2 ^ w)) h
-    where
-      go : (b : Bool) → In s (cond b (orderOf n listed) (countUp 0 n)) → s < n
-      go true i = order-in s i
-      go false i = in-up n s i
-
 -- ---- the trials: every two atoms, and every atom with every pair
 module _ (w count : ℕ) (atoms : List ℕ) (n : ℕ) (listed target : List ℕ) where
   -- a trial by its slots
@@ -83,25 +54,25 @@ module _ (w count : ℕ) (atoms : List ℕ) (n : ℕ) (listed target : List ℕ)
     pair : (x : Product) (a s : ℕ) → x ≡ Product.ofPair a s → a < count → s < n → Tried x
 
   abbrev all : List Product
-  all = withAtoms count ++ withPairs w count atoms n listed target
+  all = trialsOf w count atoms n listed target
 
   abbrev slots : ℕ → List ℕ
   slots a = slotsFor w (firstWord atoms a) (getD target 0 0) n listed
 
   in-two : (a b : ℕ) → a < count → b < count → In (Product.ofAtoms a b) all
-  unfolding withAtoms
+  unfolding trialsOf withAtoms
   in-two a b ha hb =
       in-left _ (withAtoms count) (withPairs w count atoms n listed target)
       (in-flat (λ (k : ℕ). map (Product.ofAtoms k) (countUp 0 count)) a _ (countUp 0 count) (up-in count a ha) (in-map (Product.ofAtoms a) b (countUp 0 count) (up-in count b hb)))
 
   in-pair : (a s : ℕ) → a < count → s < n → In (Product.ofPair a s) all
-  unfolding withPairs
+  unfolding trialsOf withPairs
   in-pair a s ha hs =
       in-right _ (withAtoms count) (withPairs w count atoms n listed target)
       (in-flat (λ (k : ℕ). map (Product.ofPair k) (slots k)) a _ (countUp 0 count) (up-in count a ha) (in-map (Product.ofPair a) s (slots a) (in-slots w (firstWord atoms a) (getD target 0 0) n listed s hs)))
 
-  tried : (x : Product) → In x all → Tried x
-  unfolding withAtoms withPairs
+  pub tried : (x : Product) → In x all → Tried x
+  unfolding trialsOf withAtoms withPairs
   tried x h = elim (in-split x (withAtoms count) (withPairs w count atoms n listed target) h) [
     | inl i ↦
         let s = flat-in (λ (k : ℕ). map (Product.ofAtoms k) (countUp 0 count)) x (countUp 0 count) i in
@@ -118,17 +89,18 @@ module _ (w count : ℕ) (atoms : List ℕ) (n : ℕ) (listed target : List ℕ)
     pub two : (a b : ℕ) → a < count → b < count → fits w target (partAt 16 atoms a) (partAt 16 atoms b) ≡ false
     pub pair : (a s : ℕ) → a < count → s < n → fits w target (partAt 16 atoms a) (partAt 16 listed s) ≡ false
 
-  pub nothing-fits : tryEverything w count atoms n listed target ≡ none → NoneFits
-  unfolding tryEverything fitting
-  nothing-fits e = record {
-    two = λ a b ha hb. none-passes (fitting w atoms listed target) all e (Product.ofAtoms a b) (in-two a b ha hb);
-    pair = λ a s ha hs. none-passes (fitting w atoms listed target) all e (Product.ofPair a s) (in-pair a s ha hs);
-  }
+  module _ (f : Forms) where
+    pub nothing-fits : tryEverything w count atoms n listed target f ≡ none → NoneFits
+    unfolding tryEverything fitting
+    nothing-fits e = record {
+      two = λ a b ha hb. least-none (fitting w atoms listed target) (cheaper f) all e (Product.ofAtoms a b) (in-two a b ha hb);
+      pair = λ a s ha hs. least-none (fitting w atoms listed target) (cheaper f) all e (Product.ofPair a s) (in-pair a s ha hs);
+    }
 
-  pub fits-nothing : NoneFits → tryEverything w count atoms n listed target ≡ none
-  unfolding tryEverything fitting
-  fits-nothing h = first-none (fitting w atoms listed target) all (λ x i. go x (tried x i))
-    where
-      go : (x : Product) → Tried x → fitting w atoms listed target x ≡ false
-      go x (two _ a b e ha hb) = ap (fitting w atoms listed target) e ∙ h .two a b ha hb
-      go x (pair _ a s e ha hs) = ap (fitting w atoms listed target) e ∙ h .pair a s ha hs
+    pub fits-nothing : NoneFits → tryEverything w count atoms n listed target f ≡ none
+    unfolding tryEverything fitting
+    fits-nothing h = none-least (fitting w atoms listed target) (cheaper f) all (λ x i. go x (tried x i))
+      where
+        go : (x : Product) → Tried x → fitting w atoms listed target x ≡ false
+        go x (two _ a b e ha hb) = ap (fitting w atoms listed target) e ∙ h .two a b ha hb
+        go x (pair _ a s e ha hs) = ap (fitting w atoms listed target) e ∙ h .pair a s ha hs

@@ -16,6 +16,7 @@ use Rattle.bank.specs.Build.{BankBuilt, bankSays}
 use Rattle.index_spec.specs.Index.{rowsOf, allGates, allPairs}
 use Rattle.index_spec.specs.Encoding.{pairRow}
 use Rattle.index.specs.Build.{orderList, lentIndex}
+use Rattle.search_product_forms.specs.Forms.{Forms}
 use Rattle.search_product_trial.specs.Trying.{Product}
 use Rattle.search_product.specs.Answer.{product}
 
@@ -62,16 +63,16 @@ Uncut w count atoms L = length (allPairs w allGates (rowsOf count atoms)) ≤ L
 -- for every lent bank, built or not
 abbrev pub NothingExactly : Type 0
 NothingExactly =
-    (w count : ℕ) (atoms : List ℕ) (L n : ℕ) (listed order target : List ℕ) (found : Option Product)
+    (w count : ℕ) (atoms : List ℕ) (L n : ℕ) (listed order target : List ℕ) (f : Forms) (found : Option Product)
     → OwnIndex w count atoms L n listed order → Uncut w count atoms L → length target ≡ 16
-    → product w count atoms n listed order target ≡ answer found
+    → product w count atoms n listed order target f ≡ answer found
     → (found ≡ none) ↔ NoProduct w count atoms target
 
 -- demand 3: for every input of the product search that is not turned back, on a built bank with an uncut index of its own it finds nothing exactly when no
 -- gate g and atoms a, b, c have a × b or a × (b g c) equal to the target in all sixteen places
 abbrev pub DemandThree : Type 0
 DemandThree =
-    (w count : ℕ) (atoms : List ℕ) (L n : ℕ) (listed order target : List ℕ) (found : Option Product)
+    (w count : ℕ) (atoms : List ℕ) (L n : ℕ) (listed order target : List ℕ) (f : Forms) (found : Option Product)
     → BuiltBank count atoms → OwnIndex w count atoms L n listed order → Uncut w count atoms L → length target ≡ 16
-    → product w count atoms n listed order target ≡ answer found
+    → product w count atoms n listed order target f ≡ answer found
     → (found ≡ none) ↔ NoProduct w count atoms target

@@ -1,16 +1,18 @@
 -- Laws of formulas in lent arrays: an atom's tokens, and what is written out of formulas is a formula with its cost. Assumes nothing.
 use mathlib.Core.Path.{_≡_, refl, sym, ap₂}
-use mathlib.Core.Bool.{Bool, true, false}
+use mathlib.Core.Bool.{Bool, true, false, not, _||_}
 use mathlib.Core.List.{List, [], _∷_, _++_}
 use mathlib.Core.Option.{Option, none, some}
-use Prim.Native.Nat.{ℕ, _+_, _-_, _*_, _≤_, _<_}
+use Prim.Native.Nat.{ℕ, _+_, _-_, _*_, _/_, _≤_, _<_}
 use native.Mathlib.Omega.{arith}
+use borrow.Author.Tests.{ltb-false, leb-false, not-false}
+use lib.Dec.{ltb, leb}
 use lib.ListN.{length, getD, take, drop, length-append}
 use Rattle.arrays.specs.Lists.{countUp, firstThat}
 use Rattle.arrays.specs.Parts.{partAt}
 use Rattle.arrays.proofs.Lists.{up-none}
 use Rattle.arrays.proofs.Parts.{part-is}
-use Rattle.limits.proofs.Refusals.{true-not-false}
+use Rattle.limits.proofs.Refusals.{true-not-false, neither, enough}
 use Rattle.row_gates.specs.declared.Gate.{Gate}
 use Rattle.row_gates.specs.Gates.{gateAt}
 use Rattle.expr.specs.declared.Token.{Token}
@@ -22,8 +24,8 @@ use Rattle.expr.proofs.Formulas.{gate-passes}
 use Rattle.expr_cost.specs.Cost.{infoOf, infoGate, Roomy}
 use Rattle.expr_cost.proofs.Formulas.{info-gate, cost-roomy}
 use Rattle.search_product_forms.specs.Forms.{Forms, atomForm, pairForm, pairGate, pairB, pairC, gated}
-use Rattle.search_product_forms.specs.Refusals.{someBelow}
-use Rattle.search_product_forms.specs.Written.{forms, Written, Paired}
+use Rattle.search_product_forms.specs.Refusals.{someBelow, shortForms, badAtom, badAtoms, badPair, badPairs}
+use Rattle.search_product_forms.specs.Written.{forms, Room, Written, Paired}
 
 -- the tokens that are lent are atom k's
 pub form-is : (f : Forms) (k : ℕ) → tokens (getD (f .lengths) k 0) (take (6 * k + 6 - 6 * k) (drop (6 * k) (f .ops))) (take (6 * k + 6 - 6 * k) (drop (6 * k) (f .operands))) ≡ atomForm f k
@@ -111,3 +113,50 @@ module _ {count : ℕ} {f : Forms} (w : Written count f) where
     pub pair-short : length (pairForm f s) ≤ 13
     unfolding pairForm
     pair-short = omega (arith, gated-length b c (gateAt (pairGate f s)), atom-short (pairB f s) (p .b-below s h), atom-short (pairC f s) (p .c-below s h))
+
+-- ---- what no refusal turns back
+pub bad-any : (count : ℕ) (lengths ops operands pairs others : List ℕ) → badAtoms count (forms lengths ops operands pairs) ≡ badAtoms count (forms lengths ops operands others)
+unfolding atomForm
+bad-any count lengths ops operands pairs others = refl
+
+module _ (count n : ℕ) (f : Forms) where
+  -- arrays that are long enough
+  pub record Fits : Type 0 where
+    pub room : Room count f
+    pub pairs : 3 * n ≤ length (f .pairs)
+
+  pub fits-of : shortForms count n f ≡ false → Fits
+  fits-of e =
+      let one = neither (ltb (length (f .lengths)) count) _ e in
+      let two = neither (ltb (length (f .ops) / 6) count) _ (one .1) in
+      let three = neither (ltb (length (f .operands) / 6) count) _ (two .1) in
+      record {
+        room = record {
+          lengths = ltb-false _ _ (one .0);
+          ops = enough 6 (length (f .ops)) count (omega arith) (two .0);
+          operands = enough 6 (length (f .operands)) count (omega arith) (three .0);
+        };
+        pairs = enough 3 (length (f .pairs)) n (omega arith) (three .1);
+      }
+
+  -- and formulas and pairs that pass
+  pub written-of : Room count f → count ≤ 479 → badAtoms count f ≡ false → Written count f
+  written-of room few e = record {
+    room = room;
+    few = few;
+    short = record { fit = room .lengths; most = λ k h. ltb-false _ _ (good k h .0) };
+    formula = λ k h. not-false (isFormula 6 (atomForm f k)) (good k h .1);
+  }
+    where
+      good : (k : ℕ) → k < count → (ltb 6 (getD (f .lengths) k 0) ≡ false) × (not (isFormula 6 (atomForm f k)) ≡ false)
+      good k h = neither (ltb 6 (getD (f .lengths) k 0)) _ (none-below count (badAtom f) e k h)
+
+  pub paired-of : 3 * n ≤ length (f .pairs) → badPairs count n f ≡ false → Paired count n f
+  paired-of fit e = record {
+    pairs = fit;
+    b-below = λ s h. leb-false _ _ (neither (leb count (pairB f s)) _ (good s h) .0);
+    c-below = λ s h. leb-false _ _ (neither (leb count (pairB f s)) _ (good s h) .1);
+  }
+    where
+      good : (s : ℕ) → s < n → (leb count (pairB f s) || leb count (pairC f s)) ≡ false
+      good s h = neither (ltb 4 (pairGate f s)) _ (none-below n (badPair count f) e s h) .1

@@ -1,7 +1,6 @@
 -- Laws of the slots that are tried with one atom: those that fit solve the equation of the first words, so others may be skipped. Assumes nothing.
-use mathlib.Core.Path.{_≡_, refl, sym, ap, ap₂, _∙_, subst}
-use mathlib.Core.Bool.{Bool, true, false, cond}
-use mathlib.Core.Logic.{inl, inr}
+use mathlib.Core.Path.{_≡_, sym, ap, ap₂, _∙_, subst}
+use mathlib.Core.Bool.{Bool, true, false}
 use mathlib.Core.List.{List, map}
 use mathlib.Core.Option.{Option}
 use Prim.Native.Nat.{ℕ, _-_, _*_, _%_, _^_, _≤_, _<_}
@@ -10,14 +9,14 @@ use native.Mathlib.Omega.{arith}
 use borrow.Author.Tests.{eq-eqb}
 use lib.ListN.{length, getD, take}
 use lib.Pow.{pow-pos}
-use Rattle.arrays.specs.Lists.{In, countUp}
+use Rattle.arrays.specs.Lists.{countUp}
 use Rattle.arith.specs.Word.{modulus}
-use Rattle.arrays.proofs.Lists.{bool-cases, is-false, in-place, in-up, map-in}
+use Rattle.arrays.proofs.Lists.{is-false, map-in}
 use Rattle.arrays.proofs.Least.{least-fails, take-places}
 use Rattle.limits.proofs.Refusals.{true-not-false}
 use Rattle.arith.proofs.Remainders.{modulus-is, mod-mul-mod}
 use Rattle.index_order.specs.Order.{firstWord, orderOf}
-use Rattle.index_order.proofs.OrderLaws.{order-length, order-exactly, order-below}
+use Rattle.index_order.proofs.OrderLaws.{order-exactly}
 use Rattle.search_equation.specs.Equation.{used, solves}
 use Rattle.search_equation.specs.Solved.{Asked, IsClass, IsNone}
 use Rattle.search_filter.specs.Places.{Ordered}
@@ -83,34 +82,20 @@ module _ (w : ℕ) (target atoms listed : List ℕ) (a : ℕ) (ok : Target w tar
 pub listed-is : (n : ℕ) (rows order : List ℕ) → Ordered n rows order → take n order ≡ orderOf n rows
 listed-is n rows order o = order-exactly n rows (take n order) .only-it (o .is)
 
--- ---- the slots of either order are slots of pairs
-pub slots-below : (w p t n : ℕ) (listed : List ℕ) (s : ℕ) → In s (slotsFor w p t n listed) → s < n
-unfolding slotsFor
-slots-below w p t n listed s h = elim (bool-cases (used (p % 2 ^ w) (t % 2 ^ w))) [
-  | inl y ↦ order-in (subst (λ (b : Bool). In s (cond b (orderOf n listed) (countUp 0 n))) y h)
-  | inr q ↦ in-up n s (subst (λ (b : Bool). In s (cond b (orderOf n listed) (countUp 0 n))) q h)
-]
-  where
-    order-in : In s (orderOf n listed) → s < n
-    order-in i =
-        let o = in-place 0 s (orderOf n listed) i in
-        let l = order-length n listed in
-        subst (λ (k : ℕ). k < n) (o .is) (order-below n listed (orderOf n listed) (order-exactly n listed (orderOf n listed) .it-does refl) (o .at) (omega (arith, o .below)))
-
 -- ---- the order list place after place
 -- the product of atom a with the pair at a place
 abbrev pub atPlace : ℕ → List ℕ → ℕ → Product
 atPlace a order k = Product.ofPair a (getD order k 0)
 
-module _ (f : Forms) (test : Product → Bool) (a n : ℕ) (best r : Best) where
-  pub places-all : (order : List ℕ) → n ≤ length order → (j : ℕ) → j ≡ n → TriedTo f test (atPlace a order) 0 j best r → Tried f test (map (Product.ofPair a) (take n order)) best r
-  places-all order fit j e t =
+module _ (f : Forms) (test : Product → Bool) (a : ℕ) (best r : Best) where
+  pub places-all : (n : ℕ) (order : List ℕ) → n ≤ length order → (j : ℕ) → j ≡ n → TriedTo f test (atPlace a order) 0 j best r → Tried f test (map (Product.ofPair a) (take n order)) best r
+  places-all n order fit j e t =
       let m : j - 0 ≡ n = omega arith in
       subst (λ (l : List Product). Tried f test l best r)
       (ap (λ (k : ℕ). map (atPlace a order) (countUp 0 k)) m ∙ sym (take-places (Product.ofPair a) order n fit)) t
 
-  pub slots-all : (j : ℕ) → j ≡ n → TriedTo f test (Product.ofPair a) 0 j best r → Tried f test (map (Product.ofPair a) (countUp 0 n)) best r
-  slots-all j e t =
+  pub slots-all : (n j : ℕ) → j ≡ n → TriedTo f test (Product.ofPair a) 0 j best r → Tried f test (map (Product.ofPair a) (countUp 0 n)) best r
+  slots-all n j e t =
       let m : j - 0 ≡ n = omega arith in
       subst (λ (k : ℕ). Tried f test (map (Product.ofPair a) (countUp 0 k)) best r) m t
 

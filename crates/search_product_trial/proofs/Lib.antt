@@ -1,5 +1,6 @@
 -- The laws of this crate, which the crates above cite too.
 pub mod Trials
 pub mod Firsts
+pub mod Slots
 pub mod Keeping
 pub mod Rounds

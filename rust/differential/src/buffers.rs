@@ -1,11 +1,11 @@
 //! Buffers filled with garbage, as long as a call needs or longer.
 
-use oracle::access::{AtomView, Row};
+use oracle::access::{AtomView, IndexView, Row};
 use oracle::inputs::Inputs;
-use simjaldek::lent::{BankArrays, IndexArrays};
+use simjaldek::lent::{BankArrays, IndexArrays, WrittenAtoms, WrittenPairs};
 
 /// The token places of an atom, and what stands where there is no token.
-const ATOM_TOKENS: usize = 6;
+pub const ATOM_TOKENS: usize = 6;
 const NO_TOKEN: u8 = 255;
 
 pub fn garbage_u64(inputs: &mut Inputs, len: usize) -> Vec<u64> {
@@ -36,6 +36,83 @@ pub fn longer(inputs: &mut Inputs, words: &[u64]) -> Vec<u64> {
 /// Rows one after the other, with garbage after them, or nothing.
 pub fn flat(inputs: &mut Inputs, rows: &[Row]) -> Vec<u64> {
     longer(inputs, rows.as_flattened())
+}
+
+/// Atoms as a product search reads them, with garbage past each formula, and after them all or nothing.
+#[derive(Clone, Debug)]
+pub struct AtomBuffers {
+    pub lengths: Vec<u32>,
+    pub ops: Vec<u8>,
+    pub operands: Vec<u64>,
+    pub rows: Vec<u64>,
+}
+
+impl AtomBuffers {
+    pub fn new(inputs: &mut Inputs, atoms: &[AtomView]) -> Self {
+        let mut places = |needed: usize| needed + extra(inputs);
+        let [lengths, ops, operands] =
+            [1, ATOM_TOKENS, ATOM_TOKENS].map(|n| places(n * atoms.len()));
+        let mut buffers = AtomBuffers {
+            lengths: garbage_u32(inputs, lengths),
+            ops: garbage_u8(inputs, ops),
+            operands: garbage_u64(inputs, operands),
+            rows: Vec::new(),
+        };
+        for (slot, atom) in atoms.iter().enumerate() {
+            let count = atom.formula.ops.len();
+            buffers.lengths[slot] = count as u32;
+            buffers.ops[ATOM_TOKENS * slot..][..count].copy_from_slice(&atom.formula.ops);
+            buffers.operands[ATOM_TOKENS * slot..][..count].copy_from_slice(&atom.formula.operands);
+        }
+        let rows: Vec<Row> = atoms.iter().map(|atom| atom.row).collect();
+        buffers.rows = flat(inputs, &rows);
+        buffers
+    }
+
+    /// The first atoms, or as many as are claimed.
+    pub fn lend(&self, count: usize) -> WrittenAtoms<'_> {
+        WrittenAtoms {
+            count,
+            lengths: &self.lengths,
+            ops: &self.ops,
+            operands: &self.operands,
+            rows: &self.rows,
+        }
+    }
+}
+
+/// Pairs as a product search reads them, with garbage after them or nothing.
+#[derive(Clone, Debug)]
+pub struct PairBuffers {
+    pub words: Vec<u32>,
+    pub rows: Vec<u64>,
+    pub order: Vec<u32>,
+}
+
+impl PairBuffers {
+    pub fn new(inputs: &mut Inputs, index: &IndexView) -> Self {
+        let mut longer = |numbers: &[usize]| {
+            let mut longer: Vec<u32> = numbers.iter().map(|&number| number as u32).collect();
+            let beyond = extra(inputs);
+            longer.extend(garbage_u32(inputs, beyond));
+            longer
+        };
+        PairBuffers {
+            words: longer(index.pairs.as_flattened()),
+            order: longer(&index.order),
+            rows: flat(inputs, &index.rows),
+        }
+    }
+
+    /// The first pairs, or as many as are claimed.
+    pub fn lend(&self, count: usize) -> WrittenPairs<'_> {
+        WrittenPairs {
+            count,
+            words: &self.words,
+            rows: &self.rows,
+            order: &self.order,
+        }
+    }
 }
 
 /// Sixteen points of six words each, garbage past the variables.
@@ -131,13 +208,16 @@ impl IndexBuffers {
     }
 
     /// Writes pairs, their rows and the order list.
-    pub fn write(&mut self, pairs: &[[usize; 3]], rows: &[Row], order: &[u32]) {
-        let numbers = pairs.as_flattened().iter().map(|&number| number as u32);
-        self.pairs
-            .iter_mut()
-            .zip(numbers)
-            .for_each(|(place, number)| *place = number);
+    pub fn write(&mut self, pairs: &[[usize; 3]], rows: &[Row], order: &[usize]) {
+        put(&mut self.pairs, pairs.as_flattened());
         self.rows[..16 * rows.len()].copy_from_slice(rows.as_flattened());
-        self.order[..order.len()].copy_from_slice(order);
+        put(&mut self.order, order);
+    }
+}
+
+/// Writes numbers to the first places.
+fn put(places: &mut [u32], numbers: &[usize]) {
+    for (place, &number) in places.iter_mut().zip(numbers) {
+        *place = number as u32;
     }
 }

@@ -1,28 +1,30 @@
 //! The named inputs of docs/DIFFERENCES.md, asked of our library: each answer must be the specification's. That the Rust's is another is
 //! asserted by `oracle::differences`.
 
-use oracle::access::Row;
+use oracle::access::{Row, Trial};
 use oracle::differences::gates::{
     rows, Indexed, Searched, APPLIED, COMPLETED, FOUND, INDEX, SEARCH, WIDTH,
 };
-use oracle::differences::known::{Input, FIRST_STAGE, LENT, PRODUCT_LOOP};
+use oracle::differences::known::{Input, Lent, CHEAPER_PAIR, LATER_PAIR, LENT, MISSED};
 use oracle::inputs::Inputs;
-use oracle::spec::product::Answer;
-use simjaldek::lent::{self, Atoms, Built, PairRows, Pairs};
-use simjaldek::{AtomSlot, Bank, PairSlot, Points, Product, ATOMS_MAX};
+use simjaldek::lent::{self, Atoms, Built, PairRows, WrittenPairs};
+use simjaldek::{Bank, Points, ATOMS_MAX};
 
-use crate::buffers::IndexBuffers;
-use crate::residuals;
+use crate::buffers::{AtomBuffers, IndexBuffers, PairBuffers};
+use crate::{products, residuals};
 
 /// Larger than the indexes of all inputs.
 const LIMIT: usize = 500;
 
 /// Asks for all of them.
 pub fn confirm() {
-    for input in PRODUCT_LOOP.iter().chain(&FIRST_STAGE) {
-        assert_eq!(searched(input), product(input.answer));
+    for input in MISSED.iter().chain(&CHEAPER_PAIR).chain(&LATER_PAIR) {
+        assert_eq!(searched(input), Some(input.answer));
     }
-    lent_rows();
+    for lent in &LENT {
+        lent_bank(lent);
+    }
+    lent_candidates(&LENT[0]);
     gates();
     index(&INDEX);
     for case in [SEARCH, FOUND] {
@@ -49,42 +51,44 @@ fn built(width: u32, atoms: Atoms<'_>) -> (IndexBuffers, usize) {
 }
 
 /// Bank, index and search of D1 and D2.
-fn searched(input: &Input) -> Product {
+fn searched(input: &Input) -> Option<Trial> {
     let bank = input.bank();
     let words = std::array::from_fn(|place| [bank.points[place][0], 0, 0, 0, 0, 0]);
     let points = Points::new(bank.num_vars, bank.width, words).expect("words below 2^w");
     let bank = Bank::build(&points, &bank.target).expect("words below 2^w");
     let (index, count) = built(input.index_width, bank.lend());
-    let pairs = Pairs {
+    let pairs = WrittenPairs {
         count,
+        words: &index.pairs,
         rows: &index.rows,
         order: &index.order,
     };
-    lent::product_search(input.width, bank.lend(), pairs, &input.row()).expect("words below 2^w")
+    let found = products::ask(input.width, bank.lend_written(), pairs, &input.row());
+    found.expect("words below 2^w")
 }
 
-fn product(answer: Answer) -> Product {
-    let atom = |slot: usize| AtomSlot(slot as u32);
-    match answer {
-        Answer::TwoAtoms(a, b) => Product::Atoms(atom(a), atom(b)),
-        Answer::AtomAndPair(a, pair) => Product::AtomPair(atom(a), PairSlot(pair as u32)),
-        Answer::Nothing => Product::Nothing,
-    }
+/// D1 and D2 over atoms and pairs that no build made.
+fn lent_bank(lent: &Lent) {
+    let inputs = &mut Inputs::from_seed(0);
+    let setting = lent.setting();
+    let atoms = AtomBuffers::new(inputs, &setting.atoms);
+    let pairs = PairBuffers::new(inputs, &setting.index);
+    let (atoms, pairs) = (
+        atoms.lend(setting.rows.len()),
+        pairs.lend(setting.index.all),
+    );
+    let found = products::ask(lent.width, atoms, pairs, &lent.row());
+    assert_eq!(found, Ok(Some(lent.answer)));
 }
 
-/// D1 over rows that no build made.
-fn lent_rows() {
-    let (atoms, listed) = (rows(&[LENT.atom]), rows(&[LENT.pair]));
-    let pairs = Pairs {
-        count: 1,
-        rows: listed.as_flattened(),
-        order: &[0],
-    };
-    let target = [LENT.target; 16];
-    let found = lent::product_search(LENT.width, lend(&atoms), pairs, &target);
-    assert_eq!(found, Ok(product(Answer::AtomAndPair(0, 0))));
+/// The candidates of D1's lent rows.
+fn lent_candidates(lent: &Lent) {
+    let setting = lent.setting();
+    let pairs = PairBuffers::new(&mut Inputs::from_seed(0), &setting.index);
+    let pairs = pairs.lend(setting.index.all).ordered();
+    let (p, t) = (setting.rows[0][0], lent.row()[0]);
     let mut list = [9];
-    let count = lent::candidates(LENT.width, pairs, LENT.atom, LENT.target, &mut list);
+    let count = lent::candidates(lent.width, pairs, p, t, &mut list);
     assert_eq!((count, list), (Ok(Some(1)), [0]));
 }
 

@@ -4,6 +4,7 @@
 use oracle::access::{AtomView, IndexView, Row};
 use oracle::inputs::Inputs;
 use oracle::made::indexes;
+use oracle::made::lent::any_atom;
 use oracle::made::rows::{few_rows, raised};
 use oracle::spec::gates::are_reduced;
 use oracle::spec::index as spec;
@@ -14,7 +15,7 @@ use crate::any_width;
 use crate::buffers::{extra, flat, IndexBuffers};
 use crate::report::{Kind, Report};
 use crate::residuals;
-use crate::searches::{atom_of, Lent};
+use crate::searches::Lent;
 
 /// The listing program's largest limit.
 const SMALL_LIMIT: usize = 500;
@@ -44,7 +45,7 @@ impl Setting {
         }
     }
 
-    /// Over a few rows that no build made; every other time with words from 2^width up, or with any words.
+    /// Over a few atoms that no build made; every other time with words from 2^width up, or with any words.
     pub fn made(inputs: &mut Inputs) -> Self {
         let width = any_width(inputs);
         let mut rows = few_rows(inputs, width);
@@ -57,7 +58,8 @@ impl Setting {
                 .for_each(|row| *row = raised(inputs, *row, width)),
             _ => {}
         }
-        Self::new(rows.into_iter().map(atom_of).collect(), width)
+        let atom = |row| any_atom(inputs, row, width);
+        Self::new(rows.into_iter().map(atom).collect(), width)
     }
 
     /// A width for a search: mostly that of the index, else a lesser one, so that pairs may have words that reach it.
@@ -129,9 +131,9 @@ impl Setting {
     }
 
     /// The order list, slots from `count` upward left out.
-    fn order(&self, count: usize) -> Vec<u32> {
-        let order = self.index.order.iter().filter(|&&slot| slot < count);
-        order.map(|&slot| slot as u32).collect()
+    fn order(&self, count: usize) -> Vec<usize> {
+        let order = self.index.order.iter().copied();
+        order.filter(|&slot| slot < count).collect()
     }
 
     /// Whether there are more pairs than the limit. Where the Rust lists as many as it can, only the plain statement tells.
@@ -145,9 +147,15 @@ impl Setting {
     /// The bank with the first pairs of the index, for searches at a width.
     pub fn lent(&self, limit: usize, width: u32) -> Lent {
         let count = limit.min(self.index.all);
+        let index = IndexView {
+            pairs: self.index.pairs[..count].to_vec(),
+            rows: self.index.rows[..count].to_vec(),
+            order: self.order(count),
+            all: count,
+        };
         Lent {
             atoms: self.atoms.clone(),
-            pairs: self.index.rows[..count].to_vec(),
+            index,
             width,
         }
     }

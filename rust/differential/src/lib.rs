@@ -1,6 +1,6 @@
 //! Differential runs: the originals of binsnake/cobra (`oracle`) and Simjaldek through its binding (`simjaldek`) get the same random
 //! inputs, and every result is compared. Refusals, which the originals don't have, are compared with the plain statement of the
-//! specification's table. Only the differences D1 and D2 of docs/DIFFERENCES.md may appear; `searches` recognises them by rule. D3 can't:
+//! specification's table. Only the differences D1 and D2 of docs/DIFFERENCES.md may appear; `searches` and `products` recognise them by rule. D3 can't:
 //! where gates get words from 2^w up, results are compared with the plain statement in place of the originals.
 //!
 //! A run is rounds 0, 1, 2 and so on until there are as many comparisons as asked for. A round's inputs come from the seed and the
@@ -13,6 +13,7 @@ mod formulas;
 mod indexes;
 mod listings;
 mod loads;
+mod products;
 pub mod program;
 mod refused;
 pub mod report;
@@ -35,9 +36,9 @@ const INDEX_VARIABLE_COUNTS: [u32; 24] = [
 
 /// Banks of a round; the last gets indexes and searches.
 const BANKS: usize = 4;
-/// Lent banks of each kind in a round of residual searches alone, and calls that may be refused.
-const RESIDUAL_BANKS: usize = 8;
-const RESIDUAL_REFUSALS: usize = 32;
+/// Lent banks of each kind in a round of product or residual searches alone, and calls that may be refused.
+const LENT_BANKS: usize = 8;
+const SEARCH_REFUSALS: usize = 32;
 /// Of so many rounds one has a load of ten thousand.
 const ROUNDS_TO_A_LOAD: u64 = 64;
 /// Calls of a round of loads alone that may be refused.
@@ -49,6 +50,17 @@ pub fn run(seed: u64, count: u64) -> Report {
     let mut number = 0;
     while report.comparisons() < count {
         round(seed, number, &mut report);
+        number += 1;
+    }
+    report
+}
+
+/// Rounds of product searches alone until at least `count` of them are compared with trying everything.
+pub fn run_products(seed: u64, count: u64) -> Report {
+    let mut report = Report::new(seed);
+    let mut number = 0;
+    while report.of_kind(Kind::ProductTrials) < count {
+        product_round(seed, number, &mut report);
         number += 1;
     }
     report
@@ -112,6 +124,31 @@ fn compare_setting(inputs: &mut Inputs, report: &mut Report, setting: &Setting) 
     residuals::compare(inputs, report, &setting.lent_rows(limit, width));
 }
 
+/// One round of product searches: over a built bank with an index of mostly its width, of two limits, at the index's width or a lesser
+/// one, and over lent banks with and without an index of their own; and what they refuse.
+pub fn product_round(seed: u64, number: u64, report: &mut Report) {
+    let inputs = &mut begin(seed, number, report);
+    let input = bank_input(inputs, &INDEX_VARIABLE_COUNTS);
+    let width = other_width(inputs, input.width);
+    let setting = Setting::new(input.bank(), width);
+    for _ in 0..2 {
+        let limit = setting.limit(inputs);
+        let width = setting.search_width(inputs);
+        searches::compare_products(inputs, report, &setting.lent(limit, width));
+    }
+    for _ in 0..LENT_BANKS {
+        let setting = Setting::made(inputs);
+        let limit = setting.limit(inputs);
+        let width = setting.search_width(inputs);
+        searches::compare_products(inputs, report, &setting.lent(limit, width));
+        let made = searches::made(inputs);
+        searches::compare_products(inputs, report, &made);
+    }
+    for _ in 0..SEARCH_REFUSALS {
+        refused::product(inputs, report);
+    }
+}
+
 /// One round of residual searches: over a built bank, every other time at a lesser width, with an index of two limits, and over lent
 /// banks; and what they refuse.
 pub fn residual_round(seed: u64, number: u64, report: &mut Report) {
@@ -125,10 +162,10 @@ pub fn residual_round(seed: u64, number: u64, report: &mut Report) {
         let width = setting.search_width(inputs);
         residuals::compare(inputs, report, &setting.lent_rows(limit, width));
     }
-    for _ in 0..RESIDUAL_BANKS {
+    for _ in 0..LENT_BANKS {
         residuals::compare_made(inputs, report);
     }
-    for _ in 0..RESIDUAL_REFUSALS {
+    for _ in 0..SEARCH_REFUSALS {
         refused::residual(inputs, report);
     }
 }

@@ -1,6 +1,7 @@
 //! `differential SEED COUNT`: rounds until so many results are compared. `differential SEED round NUMBER`: that round again.
-//! `differential SEED residuals COUNT`: rounds of residual searches alone until there are so many; `SEED residuals round NUMBER`: that
-//! round again. `differential SEED loads COUNT`, `SEED loads round NUMBER`: the same of formulas drawn for the test load.
+//! `differential SEED products COUNT`: rounds of product searches alone until there are so many; `SEED products round NUMBER`: that
+//! round again. `differential SEED residuals COUNT`, `SEED residuals round NUMBER`: the same of residual searches; `SEED loads COUNT`,
+//! `SEED loads round NUMBER`: of formulas drawn for the test load.
 //! Exit status 1 where a result differs in a way that docs/DIFFERENCES.md doesn't have.
 //! `differential answers NAME`: the data file of that name of crates/compare/data, the originals' answers for the program that compares.
 //! `differential program PATH`: the load program at PATH, over a pipe, beside the plain statement of what it prints, byte by byte;
@@ -36,7 +37,8 @@ fn main() -> ExitCode {
 
 fn usage() -> ExitCode {
     eprintln!(
-        "usage: differential SEED [residuals|loads] COUNT | SEED [residuals|loads] round NUMBER | answers {} | differences | program PATH | load",
+        "usage: differential SEED [products|residuals|loads] COUNT | SEED [products|residuals|loads] round NUMBER | answers {} | differences | \
+         program PATH | load",
         answers::NAMES.join("|")
     );
     ExitCode::from(2)
@@ -72,11 +74,17 @@ fn asked(words: &[&str]) -> Option<Report> {
     let number = |text: &str| text.parse::<u64>().ok();
     match *words {
         [seed, count] => Some(differential::run(number(seed)?, number(count)?)),
+        [seed, "products", count] => {
+            Some(differential::run_products(number(seed)?, number(count)?))
+        }
         [seed, "residuals", count] => {
             Some(differential::run_residuals(number(seed)?, number(count)?))
         }
         [seed, "loads", count] => Some(differential::run_loads(number(seed)?, number(count)?)),
         [seed, "round", round] => one(differential::round, number(seed)?, number(round)?),
+        [seed, "products", "round", round] => {
+            one(differential::product_round, number(seed)?, number(round)?)
+        }
         [seed, "residuals", "round", round] => {
             one(differential::residual_round, number(seed)?, number(round)?)
         }

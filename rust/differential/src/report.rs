@@ -21,9 +21,13 @@ pub enum Kind {
     PlainIndex,
     /// Used or not, the list, and its places beyond the count.
     Candidates,
-    /// Whether two atoms fit.
+    /// The product search's answer, against trying everything and keeping the least.
+    ProductTrials,
+    /// The same against the originals' two loops, each to its end.
+    LeastProduct,
+    /// The same against the originals' cheapest two atoms, where there are two.
     TwoAtoms,
-    /// The search's answer where no two atoms fit.
+    /// The same where no two atoms fit, against the originals' product loop: whether there is one, and whether ours is cheaper.
     ProductLoop,
     /// The residual search's answer over words below 2^w, against the originals' loop.
     ResidualSearch,
@@ -80,13 +84,15 @@ pub enum Kind {
 
 impl Kind {
     /// Every kind, in order.
-    pub const ALL: [Kind; 46] = [
+    pub const ALL: [Kind; 48] = [
         Kind::Bank,
         Kind::FindRow,
         Kind::AtomRow,
         Kind::Index,
         Kind::PlainIndex,
         Kind::Candidates,
+        Kind::ProductTrials,
+        Kind::LeastProduct,
         Kind::TwoAtoms,
         Kind::ProductLoop,
         Kind::ResidualSearch,
@@ -223,6 +229,13 @@ impl Report {
     /// Counts something that came up, if it did.
     pub fn reach(&mut self, name: &'static str, came_up: bool) {
         *self.reached.entry(name).or_default() += u64::from(came_up);
+    }
+
+    /// The same of several things.
+    pub fn reach_each(&mut self, all: &[(&'static str, bool)]) {
+        for &(name, came_up) in all {
+            self.reach(name, came_up);
+        }
     }
 
     fn tally(&mut self, kind: Kind) -> &mut Tally {

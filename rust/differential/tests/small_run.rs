@@ -1,9 +1,10 @@
 //! A small run: a few rounds, all kinds, no difference but those of docs/DIFFERENCES.md.
 
 use differential::report::Kind;
-use differential::{run, run_loads, run_residuals};
+use differential::{run, run_loads, run_products, run_residuals};
 
 const COUNT: u64 = 600;
+const PRODUCTS: u64 = 4000;
 const RESIDUALS: u64 = 4000;
 const DRAWN: u64 = 2000;
 const RAW: u64 = 2000;
@@ -16,6 +17,26 @@ fn no_other_difference() {
         assert!(report.of_kind(kind) > 0, "{kind:?}");
     }
     assert_eq!(report.others(), 0, "{report}");
+}
+
+/// A run of product searches meets every answer, ties, thousands of fits, and both cases of D2, each with ours the plain statement's.
+#[test]
+fn every_product_answer() {
+    let report = run_products(1, PRODUCTS);
+    assert_eq!(report.others(), 0, "{report}");
+    let text = report.to_string();
+    let counts = text.lines().filter(|line| line.starts_with("products"));
+    assert_eq!(counts.clone().count(), 10, "{report}");
+    for count in counts {
+        assert!(!count.ends_with(": 0"), "{count}");
+    }
+    let known = |kind: &str, place: usize| {
+        let line = text.lines().find(|line| line.starts_with(kind));
+        line.is_some_and(|line| line.split_whitespace().nth(place) != Some("0"))
+    };
+    let (d1, d2) = (2, 3);
+    assert!(known("LeastProduct", d1) && known("ProductLoop", d1));
+    assert!(known("TwoAtoms", d2) && known("ProductLoop", d2));
 }
 
 /// A run of residual searches meets every answer: each gate with a bank slot and with a pair, nothing, rows that repeat.

@@ -518,6 +518,34 @@ fn a_later_atom() {
     assert_eq!(of_words(&atoms, &pairs, 12), atom_and_pair(2, 2));
 }
 
+/// And every pair, also after one that fits with the same atom.
+#[test]
+fn a_later_pair() {
+    let atoms = [("c1", 1), ("v0", 9)];
+    let pairs = [1, 0, 1].map(|b| (Gate::Mul, b, b, 6));
+    assert_eq!(of_words(&atoms, &pairs, 6), atom_and_pair(0, 1));
+    assert_eq!(of_words(&atoms, &pairs[2..], 6), atom_and_pair(0, 0));
+}
+
+/// A row that fits but for one bit of one place does not fit.
+#[test]
+fn all_sixteen_words_are_compared() {
+    let right: Row = std::array::from_fn(|place| 3 * place as u64);
+    let atom = ("v0", [1; 16]);
+    for (place, bit) in (0..16).flat_map(|place| [0, 7, 63].map(|bit| (place, bit))) {
+        let mut row = right;
+        row[place] ^= 1 << bit;
+        // bit 63 doesn't count at width 8
+        let expected = |product| if bit == 63 { product } else { Product::Nothing };
+        let atoms = OwnAtoms::new(&[atom, ("v1", row)]);
+        let found = searched(8, &atoms, &OwnPairs::default(), &right);
+        assert_eq!(found, expected(two_atoms(0, 1)), "{place} {bit}");
+        let pairs = OwnPairs::new(&[(Gate::Add, 0, 0, row)]);
+        let found = searched(8, &OwnAtoms::new(&[atom]), &pairs, &right);
+        assert_eq!(found, expected(atom_and_pair(0, 0)), "{place} {bit}");
+    }
+}
+
 /// A row of one word but for its first.
 fn begun(first: u64, rest: u64) -> Row {
     std::array::from_fn(|place| if place == 0 { first } else { rest })

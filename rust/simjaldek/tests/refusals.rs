@@ -343,7 +343,7 @@ impl Handed {
         let gates = [(Gate::Mul, 1, 0, [3; 16]), (Gate::And, 0, 1, [2; 16])];
         let mut pairs = OwnPairs::new(&gates);
         pairs.words.extend([5, 9, 9]);
-        pairs.rows.extend([0; 16]);
+        pairs.rows.extend([9; 16]);
         pairs.order.push(0);
         Handed {
             width: 2,
@@ -379,7 +379,7 @@ impl Handed {
 type Fault = (u32, fn(&mut Handed));
 
 /// By falling number, so that what is too short can be made by the count that is claimed.
-const FAULTS: [Fault; 43] = [
+const FAULTS: [Fault; 44] = [
     (8, |h| h.pairs.order.swap(0, 1)),
     (8, |h| h.pairs.order[0] = 0),
     (8, |h| h.pairs.order[1] = 2),
@@ -403,6 +403,7 @@ const FAULTS: [Fault; 43] = [
     }),
     // an unknown opcode
     (6, |h| h.tokens(1, [9; 6], [0; 6])),
+    (6, |h| h.tokens(2, [1, 9, 9, 9, 9, 9], [0; 6])),
     (6, |h| h.tokens(2, [1, 255, 9, 9, 9, 9], [0; 6])),
     // variable 6
     (6, |h| h.tokens(1, [1; 6], [6; 6])),

@@ -5,10 +5,12 @@ mod banks;
 mod formulas;
 mod indexes;
 mod loads;
+mod products;
 mod searches;
 mod words;
 
 pub use loads::draw;
+pub use products::product;
 pub use searches::residual;
 
 use oracle::inputs::Inputs;
@@ -27,7 +29,7 @@ pub fn compare(inputs: &mut Inputs, report: &mut Report) {
         banks::atom_row(inputs, report);
         indexes::build(inputs, report);
         searches::candidates(inputs, report);
-        searches::product(inputs, report);
+        products::product(inputs, report);
         searches::residual(inputs, report);
         formulas::compare(inputs, report);
         loads::draw(inputs, report);

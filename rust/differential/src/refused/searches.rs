@@ -1,4 +1,4 @@
-//! Candidates and the searches.
+//! Candidates and the residual search.
 
 use oracle::inputs::Inputs;
 use oracle::spec::bank::ATOMS_MAX;
@@ -85,7 +85,7 @@ impl Lent {
 }
 
 /// Two entries change places, one is written over another, or one is any number.
-fn damage(inputs: &mut Inputs, order: &mut [u32]) {
+pub fn damage(inputs: &mut Inputs, order: &mut [u32]) {
     if order.is_empty() {
         return;
     }
@@ -119,30 +119,6 @@ pub fn candidates(inputs: &mut Inputs, report: &mut Report) {
     let ours = (refused, refused == NONE || list == before);
     let input = (width, lent.told(), p, t, places);
     report.refusal(Kind::RefusedCandidates, &input, ours, handed.refusal());
-}
-
-pub fn product(inputs: &mut Inputs, report: &mut Report) {
-    let (good, width) = widths(inputs);
-    let lent = Lent::new(inputs, good);
-    let (count, rows) = atoms(inputs);
-    let target = row_words(inputs, good);
-    let lent_atoms = Atoms { count, rows: &rows };
-    let refused = number(lent::product_search(
-        width,
-        lent_atoms,
-        lent.pairs(),
-        &target,
-    ));
-    let handed = spec::ProductSearch {
-        width: width.into(),
-        count: count as u64,
-        atoms: rows.len() as u64,
-        pairs: lent.handed(),
-        target: padded(&target),
-    };
-    let expected = with_target(&target, width, handed.refusal());
-    let input = (width, count, rows.len(), lent.told(), target);
-    report.refusal(Kind::RefusedProduct, &input, (refused, true), expected);
 }
 
 pub fn residual(inputs: &mut Inputs, report: &mut Report) {
@@ -179,7 +155,7 @@ fn atoms(inputs: &mut Inputs) -> (usize, Vec<u64>) {
 }
 
 /// A search's refusal where the target is long enough.
-fn with_target(target: &[u64], width: u32, refusal: u64) -> u64 {
+pub fn with_target(target: &[u64], width: u32, refusal: u64) -> u64 {
     if target.len() < 16 {
         short_target(width)
     } else {

@@ -8,7 +8,7 @@ use crate::spec::formulas::{GATE_OPS, VARS_MAX};
 use crate::spec::product::order_list;
 
 /// An atom with this row and any formula that an atom may have. Its recorded cost is any.
-pub fn atom(inputs: &mut Inputs, row: Row, width: u32) -> AtomView {
+pub fn any_atom(inputs: &mut Inputs, row: Row, width: u32) -> AtomView {
     let cost = [(); 3].map(|()| inputs.below(16) as u32);
     let tokens = 1 + inputs.below(ATOM_TOKENS as u64) as usize;
     let mut maker = Maker {
@@ -21,7 +21,7 @@ pub fn atom(inputs: &mut Inputs, row: Row, width: u32) -> AtomView {
 }
 
 /// Pairs with these rows, each of any gate and of any two of so many atoms, in either order; without atoms there are none.
-pub fn index(inputs: &mut Inputs, atoms: usize, mut rows: Vec<Row>) -> IndexView {
+pub fn any_index(inputs: &mut Inputs, atoms: usize, mut rows: Vec<Row>) -> IndexView {
     if atoms == 0 {
         rows.clear();
     }

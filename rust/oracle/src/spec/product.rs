@@ -212,9 +212,9 @@ mod tests {
             (0..count).map(|_| inputs.one_of(&rows)).collect()
         };
         let (atom_rows, pair_rows) = (some(7), some(30));
-        let atom = |row| lent::atom(inputs, row, width);
+        let atom = |row| lent::any_atom(inputs, row, width);
         let atoms: Vec<AtomView> = atom_rows.into_iter().map(atom).collect();
-        let index = lent::index(inputs, atoms.len(), pair_rows);
+        let index = lent::any_index(inputs, atoms.len(), pair_rows);
         (atoms, index, width)
     }
 

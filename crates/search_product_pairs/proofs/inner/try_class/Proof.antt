@@ -139,7 +139,7 @@ returns c =
     let l = c .before .before .loop in
     let s = c .before .before .before .before .before .before .before .before .before .before .before .before .before in
     let a = s .args in
-    places-all (forms (a .lengths .now) (a .ops .now) (a .operands .now) (a .pairs .now)) (fitting (a .w) (a .atoms .now) (a .listed .now) (a .target .now)) (a .a) (a .n) (a .best) (l .kept) (a .order .now) (s .pre .0 .ordered .order-fit) (l .place .at) (omega (arith, c .if1 .left, l .inv .0 .within)) (l .inv .1)
+    places-all (forms (a .lengths .now) (a .ops .now) (a .operands .now) (a .pairs .now)) (fitting (a .w) (a .atoms .now) (a .listed .now) (a .target .now)) (a .a) (a .best) (l .kept) (a .n) (a .order .now) (s .pre .0 .ordered .order-fit) (l .place .at) (omega (arith, c .if1 .left, l .inv .0 .within)) (l .inv .1)
 
 pub try-class-spec : {M : Type 1} → statement M
 try-class-spec =

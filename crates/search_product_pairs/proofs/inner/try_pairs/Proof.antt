@@ -10,8 +10,9 @@ use Rattle.search_product_forms.specs.Written.{forms}
 use Rattle.search_product_trial.specs.Trying.{Product, fitting, slotsFor}
 use Rattle.search_product_trial.specs.Stages.{Tried}
 use Rattle.search_product_trial.specs.Steps.{Target}
+use Rattle.search_product_trial.proofs.Slots.{slots-in}
 use Rattle.search_product_trial.proofs.Keeping.{pairs-dear, pairs-same}
-use Rattle.search_product_pairs.proofs.Slots.{slots-used, slots-unused, asked, none-fits, narrows, small, listed-is, slots-below, none-kept}
+use Rattle.search_product_pairs.proofs.Slots.{slots-used, slots-unused, asked, none-fits, narrows, small, listed-is, none-kept}
 use native.Mathlib.Omega.{arith}
 use borrow.Author.Needs.{needs}
 use Rattle.search_product_pairs.proofs.inner.try_pairs.Statement.{statement}
@@ -38,7 +39,7 @@ returns c =
     let lent = s .pre .0 in
     pairs-dear (lent .written) (fitting (a .w) (a .atoms .now) (a .listed .now) (a .target .now)) (a .a) (s .pre .2) (a .best) (lent .paired)
     (leb-false _ _ (sym (c .before .may-beat .ensures) ∙ not-true _ (c .if1 .taken))) (slotsFor (a .w) (firstWord (a .atoms .now) (a .a)) (getD (a .target .now) 0 0) (a .n) (a .listed .now))
-    (slots-below (a .w) (firstWord (a .atoms .now) (a .a)) (getD (a .target .now) 0 0) (a .n) (a .listed .now))
+    (slots-in (a .w) (firstWord (a .atoms .now) (a .a)) (getD (a .target .now) 0 0) (a .n) (a .listed .now))
 
 mul-reduce : tie.Need-mul-reduce
 mul-reduce c =
@@ -120,7 +121,7 @@ returns-3 c =
     let lent = s .pre .0 in
     let ok : Target (a .w) (a .target .now) = record { width = lent .width; long = lent .long; reduced = lent .reduced } in
     let none = solved-none (sol .solve .ensures) (c .enum-told .given .1) in
-    none-kept (forms (a .lengths .now) (a .ops .now) (a .operands .now) (a .pairs .now)) (fitting (a .w) (a .atoms .now) (a .listed .now) (a .target .now)) (a .a) (a .n) (a .best) (a .best) (slotsFor (a .w) (firstWord (a .atoms .now) (a .a)) (getD (a .target .now) 0 0) (a .n) (a .listed .now))
+    none-kept (forms (a .lengths .now) (a .ops .now) (a .operands .now) (a .pairs .now)) (fitting (a .w) (a .atoms .now) (a .listed .now) (a .target .now)) (a .a) (a .best) (a .best) (slotsFor (a .w) (firstWord (a .atoms .now) (a .a)) (getD (a .target .now) 0 0) (a .n) (a .listed .now))
     (λ k. pairs-same (a .w) (a .atoms .now) (a .listed .now) (a .target .now) (a .a) k ∙ none-fits (a .w) (a .target .now) (a .atoms .now) (a .listed .now) (a .a) ok (r .reduce .result) (r .reduce .ensures) none k) refl
 
 try-slots-requires : tie.Need-try-slots-requires

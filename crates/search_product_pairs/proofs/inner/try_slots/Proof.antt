@@ -74,7 +74,7 @@ returns : tie.Need-returns Inv-loop μ-loop
 returns c =
     let l = c .before .loop in
     let a = c .before .before .before .before .before .before .before .before .before .before .args in
-    slots-all (forms (a .lengths .now) (a .ops .now) (a .operands .now) (a .pairs .now)) (fitting (a .w) (a .atoms .now) (a .listed .now) (a .target .now)) (a .a) (a .n) (a .best) (l .kept) (l .s) (omega (arith, c .loop-test .left, l .inv .0)) (l .inv .2)
+    slots-all (forms (a .lengths .now) (a .ops .now) (a .operands .now) (a .pairs .now)) (fitting (a .w) (a .atoms .now) (a .listed .now) (a .target .now)) (a .a) (a .best) (l .kept) (a .n) (l .s) (omega (arith, c .loop-test .left, l .inv .0)) (l .inv .2)
 
 pub try-slots-spec : {M : Type 1} → statement M
 try-slots-spec =

@@ -45,9 +45,9 @@ const HEAD: [&str; 35] = [
     "index at the search's width and with its own, and D2's. After them come banks whose index is small, banks of all styles at",
     "every width, searches at another width than the bank's, searches whose answer hangs on the order in which pairs are tried,",
     "searches where one trial fits, where several fit at the least cost, where an atom and a pair are cheaper than two atoms that",
-    "fit, and where they come after the first that fit, and searches that a thousand trials fit and more. The row is the product",
-    "of two atoms or of an atom and a pair, such a product with one word changed (the first, the sixteenth, any), any row, one",
-    "word throughout, of 0 and 2^(W3 - 1), or zero. The limit is at most 500; some indexes are whole.",
+    "fit, and where they come after the first that fit, and searches that very many trials fit (zeros over a thousand). The row",
+    "is the product of two atoms or of an atom and a pair, such a product with one word changed (the first, the sixteenth, any),",
+    "any row, one word throughout, words that are 0 or 2^(W3 - 1), or zero. The limit is at most 500; some indexes are whole.",
     "In lines of kinds 17 and 18 a lent array has at most 8,000 numbers.",
 ];
 

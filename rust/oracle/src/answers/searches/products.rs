@@ -21,8 +21,6 @@ const OTHER_WIDTHS: usize = 3;
 const DRAWN: usize = 6;
 /// How often a row is drawn anew for the answer that it is to have.
 const DRAWS: usize = 30;
-/// Trials that fit, at least, where there are many.
-const MANY: usize = 1000;
 
 /// A line for a row searched for, of an index at the search's width.
 fn line(file: &mut DataFile, searched: &Searched, row: Row) {
@@ -331,21 +329,20 @@ fn is_after_the_first(setting: &Setting, row: &Row) -> bool {
     setting.two_atoms(*row).is_none() && setting.try_everything(row) != first
 }
 
-/// Rows that a thousand trials fit, or many more: zeros, a constant, and at small widths even words.
+/// Rows that very many trials fit: zeros, a constant, and at small widths words that are 0 or 2^(width - 1).
 fn many(file: &mut DataFile, inputs: &mut Inputs) {
-    for (num_vars, width) in [(1, 8), (2, 3), (3, 4), (4, 2), (6, 64)] {
-        line_for_many(file, inputs, num_vars, width, |_, _| [0; 16]);
+    for (num_vars, width) in [(2, 3), (3, 4), (4, 2), (6, 2), (6, 64)] {
+        line_for_many(file, inputs, (num_vars, width), 1000, |_, _| [0; 16]);
     }
-    for (num_vars, width) in [(1, 2), (2, 2), (3, 1)] {
-        line_for_many(file, inputs, num_vars, width, |inputs, width| {
+    for (num_vars, width) in [(1, 4), (3, 3), (6, 4)] {
+        line_for_many(file, inputs, (num_vars, width), 50, |inputs, _| {
             [1 + inputs.below(largest(width)); 16]
         });
     }
-    for (num_vars, width) in [(2, 2), (2, 3), (3, 4)] {
-        line_for_many(file, inputs, num_vars, width, |inputs, width| {
-            let half = 1 << (width - 1);
-            let words = [0, half, half];
-            std::array::from_fn(|_| inputs.one_of(&words))
+    for (num_vars, width) in [(2, 2), (3, 3), (3, 4), (4, 2)] {
+        line_for_many(file, inputs, (num_vars, width), 100, |inputs, setting| {
+            let half = [1 << (width - 1); 16];
+            product(&half, &inputs.one_of(&setting.index.rows), width)
         });
     }
 }
@@ -354,15 +351,18 @@ fn many(file: &mut DataFile, inputs: &mut Inputs) {
 fn line_for_many(
     file: &mut DataFile,
     inputs: &mut Inputs,
-    num_vars: u32,
-    width: u32,
-    row: impl Fn(&mut Inputs, u32) -> Row,
+    (num_vars, width): (u32, u32),
+    least: usize,
+    row: impl Fn(&mut Inputs, &Setting) -> Row,
 ) {
     loop {
         let bank = BankInput::of_any_style(inputs, num_vars, width);
         let searched = Searched::new(bank, width, LIMIT_MAX);
-        let row = row(inputs, width);
-        if searched.setting.written().fitting(&row).len() >= MANY {
+        if searched.setting.index.rows.is_empty() {
+            continue;
+        }
+        let row = row(inputs, &searched.setting);
+        if searched.setting.written().fitting(&row).len() >= least {
             return line(file, &searched, row);
         }
     }

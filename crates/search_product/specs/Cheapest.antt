@@ -1,0 +1,87 @@
+-- 02, 2.4: the cheapest product, not the first: the statements. proofs/Least has their proofs. Assumes nothing.
+use mathlib.Core.Path.{_≡_}
+use mathlib.Core.Bool.{Bool, true, false, cond, _&&_}
+use mathlib.Core.List.{List, _∷_, _++_}
+use mathlib.Core.Logic.{_↔_}
+use mathlib.Core.Option.{Option, some}
+use Prim.Native.Nat.{ℕ, _+_}
+use Rattle.arrays.specs.Lists.{In}
+use Rattle.arrays.specs.Least.{IsLeast}
+use Rattle.limits.specs.Refusal.{answer}
+use Rattle.expr.specs.declared.Token.{Token}
+use Rattle.expr.specs.Formula.{isFormula}
+use Rattle.expr_cost.specs.Cost.{infoOf, costOf, isBetter}
+use Rattle.search_product_forms.specs.Forms.{Forms, atomForm, pairForm}
+use Rattle.search_product_trial.specs.Trying.{Product, fitting, trialsOf, productForm, productCost, cheaper}
+use Rattle.search_product_trial.specs.Trying.Product.{ofAtoms, ofPair}
+use Rattle.search_product.specs.Answer.{product}
+
+-- a product is shown
+pub record Shown (found : Option Product) : Type 0 where
+  pub product : Product
+  pub is : found ≡ some product
+
+-- a trial of 01's fits
+pub record SomeFits (w count : ℕ) (atoms : List ℕ) (n : ℕ) (listed target : List ℕ) : Type 0 where
+  pub trial : Product
+  pub tried : In trial (trialsOf w count atoms n listed target)
+  pub fits : fitting w atoms listed target trial ≡ true
+
+-- that a product is shown exactly if one fits remains true
+abbrev pub ShownExactly : Type 0
+ShownExactly =
+    (w count : ℕ) (atoms : List ℕ) (n : ℕ) (listed order target : List ℕ) (f : Forms) (found : Option Product)
+    → product w count atoms n listed order target f ≡ answer found
+    → Shown found ↔ SomeFits w count atoms n listed target
+
+-- the fitting product of least cost, by the cost order: no fitting trial is strictly better, over atom pairs and listed pairs together
+abbrev pub NoneBetter : Type 0
+NoneBetter =
+    (w count : ℕ) (atoms : List ℕ) (n : ℕ) (listed order target : List ℕ) (f : Forms) (x : Product)
+    → product w count atoms n listed order target f ≡ answer (some x)
+    → (y : Product) → In y (trialsOf w count atoms n listed target) → fitting w atoms listed target y ≡ true
+    → isBetter (productCost f y) (productCost f x) ≡ false
+
+-- x is a trial that fits, and every fitting trial before it, in 01's search order, is strictly dearer
+pub record First (w count : ℕ) (atoms : List ℕ) (n : ℕ) (listed target : List ℕ) (f : Forms) (x : Product) : Type 0 where
+  pub earlier : List Product
+  pub later : List Product
+  pub stands : trialsOf w count atoms n listed target ≡ earlier ++ (x ∷ later)
+  pub fits : fitting w atoms listed target x ≡ true
+  pub dearer : (y : Product) → In y earlier → fitting w atoms listed target y ≡ true → isBetter (productCost f x) (productCost f y) ≡ true
+
+-- among equal costs, the earlier in 01's search order
+abbrev pub EarlierDearer : Type 0
+EarlierDearer =
+    (w count : ℕ) (atoms : List ℕ) (n : ℕ) (listed order target : List ℕ) (f : Forms) (x : Product)
+    → product w count atoms n listed order target f ≡ answer (some x) → First w count atoms n listed target f x
+
+-- these leave one answer: what is shown is the least, and the least is shown
+abbrev pub LeastExactly : Type 0
+LeastExactly =
+    (w count : ℕ) (atoms : List ℕ) (n : ℕ) (listed order target : List ℕ) (f : Forms) (found : Option Product) (x : Product)
+    → product w count atoms n listed order target f ≡ answer found
+    → (found ≡ some x) ↔ IsLeast (fitting w atoms listed target) (cheaper f) (trialsOf w count atoms n listed target) x
+
+-- engineers load the shortest form: what is shown, written out, passes 01's formula test with six variables
+abbrev pub ShownPasses : Type 0
+ShownPasses =
+    (w count : ℕ) (atoms : List ℕ) (n : ℕ) (listed order target : List ℕ) (f : Forms) (x : Product)
+    → product w count atoms n listed order target f ≡ answer (some x) → isFormula 6 (productForm f x) ≡ true
+
+-- the two sides of a product, written out
+abbrev pub leftSide : Forms → Product → List Token
+leftSide f (ofAtoms a b) = atomForm f a
+leftSide f (ofPair a s) = atomForm f a
+
+abbrev pub rightSide : Forms → Product → List Token
+rightSide f (ofAtoms a b) = atomForm f b
+rightSide f (ofPair a s) = pairForm f s
+
+-- the cost is that of the whole written-out formula, 3 for a product with variables on both sides
+abbrev pub VariablesOnBothSides : Type 0
+VariablesOnBothSides =
+    (w count : ℕ) (atoms : List ℕ) (n : ℕ) (listed order target : List ℕ) (f : Forms) (found : Option Product)
+    → product w count atoms n listed order target f ≡ answer found
+    → (x : Product) → In x (trialsOf w count atoms n listed target)
+    → productCost f x .size ≡ costOf (leftSide f x) .size + costOf (rightSide f x) .size + cond (infoOf (leftSide f x) .varies && infoOf (rightSide f x) .varies) 3 1
