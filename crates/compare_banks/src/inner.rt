@@ -34,21 +34,26 @@ pub fn points_at(line: &[u64], stride: usize) -> [Point; 16]
     points
 }
 
-// The rows of the bank of a line KIND NV W, the points' words and the target, and how many there are; 0 where it is refused.
-pub fn bank_rows(rows: &mut [u64], line: &[u64], nv: usize) -> usize
+// The bank of a line KIND NV W, the points' words and the target: its formulas and rows are left, and how many atoms there are is handed back; 0 where it is
+// refused.
+pub fn bank_of(
+    lengths: &mut [u32],
+    ops: &mut [u8],
+    operands: &mut [u64],
+    rows: &mut [u64],
+    line: &[u64],
+    nv: usize,
+) -> usize
     requires { ⌜ (nv ≤ 6) × (3 ≤ length (now line)) ⌝ }
 {
     let points = points_at(line, nv);
     let target = compare_lines::inner::row_at(line, 3 + 16 * nv);
-    let mut lengths = [0u32; 479];
-    let mut ops = [0u8; 2874];
-    let mut operands = [0u64; 2874];
     let mut costs = [0u32; 1437];
     let mut work = [0u32; 1916];
     let built = bank::build_bank(
-        &mut lengths,
-        &mut ops,
-        &mut operands,
+        lengths,
+        ops,
+        operands,
         &mut costs,
         rows,
         &mut work,
@@ -58,6 +63,16 @@ pub fn bank_rows(rows: &mut [u64], line: &[u64], nv: usize) -> usize
         target,
     );
     count_of(built)
+}
+
+// The rows alone.
+pub fn bank_rows(rows: &mut [u64], line: &[u64], nv: usize) -> usize
+    requires { ⌜ (nv ≤ 6) × (3 ≤ length (now line)) ⌝ }
+{
+    let mut lengths = [0u32; 479];
+    let mut ops = [0u8; 2874];
+    let mut operands = [0u64; 2874];
+    bank_of(&mut lengths, &mut ops, &mut operands, rows, line, nv)
 }
 
 // The atoms of an answer, at most 479; 0 where it is refused.

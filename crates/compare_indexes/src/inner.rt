@@ -84,8 +84,35 @@ fn arrays_are(
     halves_are(order, n, line[at + 6])
 }
 
-// Builds the index of `atom_count` rows, of at most 500 pairs: its rows and its order list are left, and the count of its pairs is handed back, more than there
-// can be where it is refused.
+// Builds the index of `atom_count` rows, of at most 500 pairs: its words, its rows and its order list are left, and the count of its pairs is handed back, more
+// than there can be where it is refused.
+pub fn built_index(
+    pairs: &mut [u32],
+    pair_rows: &mut [u64],
+    order: &mut [u32],
+    w: u64,
+    limit: u64,
+    atom_count: usize,
+    atom_rows: &[u64],
+) -> usize {
+    let mut work = [0u32; 3916];
+    let built = index::build_index(
+        narrow(w),
+        atom_count,
+        atom_rows,
+        limit as usize,
+        pairs,
+        pair_rows,
+        order,
+        &mut work,
+    );
+    match built {
+        IndexAnswer::Built { pairs, cut: _ } => pairs as usize,
+        IndexAnswer::Refused(_) => 501,
+    }
+}
+
+// Its rows and its order list alone.
 pub fn built_rows(
     pair_rows: &mut [u64],
     order: &mut [u32],
@@ -95,19 +122,5 @@ pub fn built_rows(
     atom_rows: &[u64],
 ) -> usize {
     let mut pairs = [0u32; 1500];
-    let mut work = [0u32; 3916];
-    let built = index::build_index(
-        narrow(w),
-        atom_count,
-        atom_rows,
-        limit as usize,
-        &mut pairs,
-        pair_rows,
-        order,
-        &mut work,
-    );
-    match built {
-        IndexAnswer::Built { pairs, cut: _ } => pairs as usize,
-        IndexAnswer::Refused(_) => 501,
-    }
+    built_index(&mut pairs, pair_rows, order, w, limit, atom_count, atom_rows)
 }

@@ -30,6 +30,11 @@ pub fn least(x: u64, most: usize) -> usize
 }
 
 // The first elements of a slice, as many as the data says, or all.
+pub fn first_bytes(s: &[u8], n: u64) -> &[u8] {
+    let end = least(n, s.len());
+    &s[..end]
+}
+
 pub fn first_halves(s: &[u32], n: u64) -> &[u32] {
     let end = least(n, s.len());
     &s[..end]

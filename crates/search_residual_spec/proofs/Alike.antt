@@ -1,4 +1,4 @@
--- The residual search turns back as the product search does that is lent the right order list, whose tests then pass. Assumes nothing.
+-- The residual search turns back as the product search does that is lent the right order list, and formulas and pairs whose tests pass. Assumes nothing.
 use mathlib.Core.Path.{_≡_, sym, ap, ap₂, _∙_}
 use mathlib.Core.Bool.{Bool, false, not, _||_}
 use mathlib.Core.List.{List}
@@ -24,14 +24,20 @@ order-there n listed =
 order-right : (n : ℕ) (listed : List ℕ) → wrongOrder n listed (orderOf n listed) ≡ false
 order-right n listed = ap not (order-exactly n listed (take n (orderOf n listed)) .it-does (take-all n (orderOf n listed) (omega (arith, order-length n listed))))
 
-pub turns-back-alike : TurnsBackAlike
-turns-back-alike w count atoms n listed target =
-    sym
-    (ap₂ (λ (short wrong : Bool).
+-- the chain of the product search, by its five tests that the residual search lacks
+abbrev chain : ℕ → ℕ → List ℕ → ℕ → List ℕ → Bool → Bool → Bool → Bool → Bool → ℕ
+chain w count atoms n target short forms-short bad-atom bad-pair wrong =
     refuse (badWidth w) 2
-    (refuse (tooFewRows count atoms || short) 4
+    (refuse (tooFewRows count atoms || (short || forms-short)) 4
     (refuse (reaches (2 ^ w) target) 5
-    (refuse (tooManyAtoms count || tooManyPairs n) 7
+    (refuse bad-atom 6
+    (refuse (tooManyAtoms count || (tooManyPairs n || bad-pair)) 7
     (refuse wrong 8 0)))))
-    (order-there n listed)
-    (order-right n listed))
+
+pub turns-back-alike : TurnsBackAlike
+turns-back-alike w count atoms n listed target f long atoms-good pairs-good =
+    let short = shortPairs n listed (orderOf n listed) in
+    ap₂ (λ (x y : Bool). refuse (badWidth w) 2 (refuse (tooFewRows count atoms || x) 4 (refuse (reaches (2 ^ w) target) 5 (refuse (tooManyAtoms count || y) 7 0))))
+    (sym (or-false (tooFewRows n listed))) (sym (or-false (tooManyPairs n)))
+    ∙ ap₂ (λ (x y : Bool). chain w count atoms n target x false false false y) (sym (order-there n listed)) (sym (order-right n listed))
+    ∙ λ i. chain w count atoms n target short (sym long i) (sym atoms-good i) (sym pairs-good i) (wrongOrder n listed (orderOf n listed))

@@ -1,5 +1,6 @@
 -- 02, 2.1, sums and xors: what is shown completes to the target, and "nothing" is true. The statements; proofs/ has their proofs. Assumes nothing.
 use mathlib.Core.Path.{_≡_}
+use mathlib.Core.Bool.{false}
 use mathlib.Core.List.{List}
 use mathlib.Core.Logic.{_⊎_, _↔_}
 use mathlib.Core.Option.{Option, none, some}
@@ -11,6 +12,8 @@ use Rattle.row_gates.specs.Gates.{gateOf, gateRow}
 use Rattle.row_gates.specs.declared.Gate.{Gate}
 use Rattle.row_gates.specs.declared.Gate.the-variants.{Xor, Add}
 use Rattle.index_order.specs.Order.{orderOf}
+use Rattle.search_product_forms.specs.Forms.{Forms}
+use Rattle.search_product_forms.specs.Refusals.{shortForms, badAtoms, badPairs}
 use Rattle.search_product.specs.Answer.{searchRefusal}
 use Rattle.search_product.specs.Demand.{BuiltBank, OwnIndex, Uncut}
 use Rattle.search_residual_trial.specs.Trying.{Completion}
@@ -103,8 +106,9 @@ NothingOnBuilt =
 abbrev pub BuiltRowsBelow : Type 0
 BuiltRowsBelow = (w count : ℕ) (atoms : List ℕ) (built : BuiltBank count atoms) → built .w ≤ w → RowsBelow w count atoms
 
--- 02, 2.1: it turns back as the product search does that is lent the right order list
+-- 02, 2.1: it turns back as the product search does that is lent the right order list and, since 02, 2.4, formulas and pairs that pass
 abbrev pub TurnsBackAlike : Type 0
 TurnsBackAlike =
-    (w count : ℕ) (atoms : List ℕ) (n : ℕ) (listed target : List ℕ)
-    → residualRefusal w count atoms n listed target ≡ searchRefusal w count atoms n listed (orderOf n listed) target
+    (w count : ℕ) (atoms : List ℕ) (n : ℕ) (listed target : List ℕ) (f : Forms)
+    → shortForms count n f ≡ false → badAtoms count f ≡ false → badPairs count n f ≡ false
+    → residualRefusal w count atoms n listed target ≡ searchRefusal w count atoms n listed (orderOf n listed) target f

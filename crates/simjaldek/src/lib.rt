@@ -31,24 +31,29 @@ ghost use Rattle.row_fingerprint.specs.Fingerprint.{fingerprintOf};
 ghost use Rattle.bank_parts.specs.Parts.{arrays};
 ghost use Rattle.bank_lookup.specs.Lookup.{found, handRefusal};
 ghost use Rattle.index.specs.Build.{arraysOf};
+ghost use Rattle.search_product_forms.specs.Written.{forms};
 ghost use Rattle.search_product.specs.Answer.{product};
 ghost use Rattle.search_residual.specs.Answer.{completion};
 ghost use Rattle.simjaldek_abi.specs.Slices.{rowIn, shortRow, rowRefusal, pointsIn, pointsRefusal, twoShort, threeShort, gateRefusal};
 ghost use Rattle.simjaldek_abi.specs.Reply.{orElse, rowOrElse, wordReply, costReply, pointsReply, drawReply, costFrom, markOf, matchReply, optionReply, numberReply, productReply, residualReply, tokenReply, formulaReply};
 ghost use Rattle.simjaldek.specs.Beside.{Indexed, Listed, BankReplied, Texted};
 
-// `search_product::product_search`: kind 0 nothing, 1 the atoms a and b, 2 the atom a and the pair b. Refuses 2, 4, 5, 7, 8.
+// `search_product::product_search`: kind 0 nothing, 1 the atoms a and b, 2 the atom a and the pair b, the cheapest product. Refuses 2, 4, 5, 6, 7, 8.
 #[no_mangle]
 pub extern "C" fn simjaldek_product_search(
     w: u32,
     atom_count: usize,
+    atom_lengths: &[u32],
+    atom_ops: &[u8],
+    atom_operands: &[u64],
     atom_rows: &[u64],
     pair_count: usize,
+    pairs: &[u32],
     pair_rows: &[u64],
     order: &[u32],
     target: &[u64],
 ) -> Reply
-    ensures { λ r. ⌜ r ≡ productReply (orElse (rowRefusal w (now (target .entry))) (product w «atom_count» (now («atom_rows» .entry)) «pair_count» (now («pair_rows» .entry)) (now (order .entry)) (rowIn (now (target .entry))))) ⌝ }
+    ensures { λ r. ⌜ r ≡ productReply (orElse (rowRefusal w (now (target .entry))) (product w «atom_count» (now («atom_rows» .entry)) «pair_count» (now («pair_rows» .entry)) (now (order .entry)) (rowIn (now (target .entry))) (forms (now («atom_lengths» .entry)) (now («atom_ops» .entry)) (now («atom_operands» .entry)) (now (pairs .entry))))) ⌝ }
 {
     let refusal = slices::row_refusal(w, target);
     if refusal != 0 {
@@ -58,8 +63,12 @@ pub extern "C" fn simjaldek_product_search(
     replies::of_product(search_product::product_search(
         w,
         atom_count,
+        atom_lengths,
+        atom_ops,
+        atom_operands,
         atom_rows,
         pair_count,
+        pairs,
         pair_rows,
         order,
         row,

@@ -22,9 +22,11 @@ pub use setting::Setting;
 
 /// The variable counts and the widths of the table.
 pub const VARIABLE_COUNTS: [u32; 5] = [1, 2, 3, 4, 6];
-pub const WIDTHS: [u32; 4] = [1, 8, 32, 64];
+pub const WIDTHS: [u32; 5] = [1, 2, 8, 32, 64];
 /// The width at which residual searches alone are timed.
 const RESIDUALS_ALONE: u32 = 1;
+/// The width at which product searches for an even target alone are timed.
+const EVEN_ALONE: u32 = 2;
 
 /// What is timed.
 #[derive(Clone, Copy, Debug, PartialEq, Eq)]
@@ -37,6 +39,9 @@ pub enum Call {
     SearchAtomsLate,
     SearchPairEarly,
     SearchPairLate,
+    SearchZeros,
+    SearchConstant,
+    SearchEven,
     ResidualNothing,
     ResidualAtoms,
     ResidualPairEarly,
@@ -50,7 +55,7 @@ pub enum Call {
 
 impl Call {
     /// All calls, in the tables' order.
-    pub const ALL: [Call; 17] = [
+    pub const ALL: [Call; 20] = [
         Call::Bank,
         Call::Index,
         Call::SearchNothing,
@@ -59,6 +64,9 @@ impl Call {
         Call::SearchAtomsLate,
         Call::SearchPairEarly,
         Call::SearchPairLate,
+        Call::SearchZeros,
+        Call::SearchConstant,
+        Call::SearchEven,
         Call::ResidualNothing,
         Call::ResidualAtoms,
         Call::ResidualPairEarly,
@@ -80,7 +88,10 @@ impl Call {
             Call::SearchAtomsEarly => "Product search, two atoms, early",
             Call::SearchAtomsLate => "Product search, two atoms, late",
             Call::SearchPairEarly => "Product search, atom and pair, early",
-            Call::SearchPairLate => "Product search, atom and pair, late",
+            Call::SearchPairLate => "Product search, atom and pair, late, one fits",
+            Call::SearchZeros => "Product search, zeros, very many fit",
+            Call::SearchConstant => "Product search, a constant",
+            Call::SearchEven => "Product search, even words, very many fit",
             Call::ResidualNothing => "Residual search, nothing",
             Call::ResidualAtoms => "Residual search, two atoms",
             Call::ResidualPairEarly => "Residual search, atom and pair, early",
@@ -127,6 +138,10 @@ pub fn time_setting(plan: &Plan, setting: &mut Setting) -> Vec<Line> {
             times,
         });
     };
+    if width == EVEN_ALONE {
+        searches::time_even(plan, setting, &mut take);
+        return lines;
+    }
     if width != RESIDUALS_ALONE {
         builds::time(plan, setting, &mut take);
         searches::time(plan, setting, &mut take);
@@ -140,6 +155,9 @@ pub fn time_setting(plan: &Plan, setting: &mut Setting) -> Vec<Line> {
 /// Checks that both sides of every call give the same answers.
 pub fn check_setting(setting: &Setting) {
     builds::check(setting);
+    if setting.width == EVEN_ALONE {
+        return searches::check_even(setting);
+    }
     if setting.width != RESIDUALS_ALONE {
         searches::check(setting);
         formulas::check(setting.num_vars, setting.width);

@@ -69,7 +69,7 @@ fn note(setting: &Setting, answer: Option<Completion>) -> String {
 
 /// Our side.
 fn our_search(setting: &Setting, target: &Row) -> Option<Completion> {
-    let (atoms, pairs) = (setting.ours.atoms(), setting.ours.pairs().unordered());
+    let (atoms, pairs) = (setting.ours.atoms().rows(), setting.ours.pair_rows());
     let found = lent::residual_search(setting.width, atoms, pairs, target);
     let (gate, AtomSlot(atom), other) = match found.expect("the arrays are fit") {
         Ours::Atoms(gate, a, AtomSlot(b)) => (gate, a, Part::Atom(b as usize)),
@@ -89,8 +89,8 @@ fn rust_search(setting: &Setting, target: &Row) -> Option<Completion> {
 fn plain_search(setting: &Setting, target: &Row) -> Option<Completion> {
     let plain = Plain {
         width: setting.width,
-        atoms: setting.ours.atoms(),
-        pairs: setting.ours.pairs().unordered(),
+        atoms: setting.ours.atoms().rows(),
+        pairs: setting.ours.pair_rows(),
         target,
     };
     assert!(plain.is_fit());

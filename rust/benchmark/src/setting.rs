@@ -2,7 +2,9 @@
 
 use oracle::access::{self, Inner, Pool, Row};
 use oracle::inputs::Inputs;
-use simjaldek::lent::{self, Atoms, BankArrays, Built, IndexArrays, Pairs};
+use simjaldek::lent::{
+    self, Atoms, BankArrays, Built, IndexArrays, PairRows, WrittenAtoms, WrittenPairs,
+};
 use simjaldek::{ATOMS_MAX, ATOM_TOKENS, PAIRS_MAX, POINT_WORDS, ROW_WORDS};
 
 /// Both sides' bank and index over the points of `make_probe_points` and a random target.
@@ -114,21 +116,30 @@ impl Ours {
         self.built = built.expect("the arrays are long enough");
     }
 
-    /// The atoms' rows as a search takes them.
-    pub fn atoms(&self) -> Atoms<'_> {
-        Atoms {
+    /// The atoms as a product search takes them.
+    pub fn atoms(&self) -> WrittenAtoms<'_> {
+        WrittenAtoms {
             count: self.atoms,
+            lengths: &self.bank.lengths,
+            ops: &self.bank.ops,
+            operands: &self.bank.operands,
             rows: &self.bank.rows,
         }
     }
 
-    /// The pairs' rows and their order list as a search takes them.
-    pub fn pairs(&self) -> Pairs<'_> {
-        Pairs {
+    /// The pairs as a product search takes them.
+    pub fn pairs(&self) -> WrittenPairs<'_> {
+        WrittenPairs {
             count: self.built.pairs,
+            words: &self.index.pairs,
             rows: &self.index.rows,
             order: &self.index.order,
         }
+    }
+
+    /// The pairs as a residual search takes them.
+    pub fn pair_rows(&self) -> PairRows<'_> {
+        self.pairs().ordered().unordered()
     }
 
     /// A pair's row.

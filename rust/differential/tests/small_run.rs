@@ -7,7 +7,7 @@ const COUNT: u64 = 600;
 const PRODUCTS: u64 = 4000;
 const RESIDUALS: u64 = 4000;
 const DRAWN: u64 = 2000;
-const RAW: u64 = 2000;
+const RAW: u64 = 4000;
 
 #[test]
 fn no_other_difference() {

@@ -250,17 +250,17 @@ fn candidates() -> Work {
     })
 }
 
-/// Searches that find nothing, with and without the filter, and one each for two atoms and for an atom and a pair.
+/// Searches that find nothing, with and without the filter, one each for two atoms and for an atom and a pair, and one that very many fit.
 fn product_search() -> Work {
     let index = index();
     let mut zero_first = target();
     zero_first[0] = 0;
     let atom = *index.bank().atoms().last().expect("it has atoms").row();
     let pair = *index.pairs().next().expect("it has pairs").row();
-    let targets = [target(), zero_first, atom, pair];
+    let targets = [target(), zero_first, atom, pair, [0; 16]];
     Box::new(move || {
-        let search =
-            |target: &Row| lent::product_search(WIDTH, index.bank().lend(), index.lend(), target);
+        let (atoms, pairs) = (index.bank().lend_written(), index.lend_written());
+        let search = |target: &Row| lent::product_search(WIDTH, atoms, pairs, target);
         let found = targets.each_ref().map(search);
         assert!(matches!(
             found,
@@ -269,6 +269,7 @@ fn product_search() -> Work {
                 Ok(Product::Nothing),
                 Ok(Product::Atoms(..)),
                 Ok(Product::AtomPair(..)),
+                Ok(Product::Atoms(..)),
             ]
         ));
     })

@@ -8,6 +8,7 @@
 mod bank;
 mod formulas;
 mod index;
+mod least;
 mod residual;
 mod search;
 
@@ -16,6 +17,7 @@ use super::{ProbeVals, ALL_GATES, N_PROBES};
 pub use bank::{bank, AtomView, Pool};
 pub use formulas::{compute_cost, eval, expr_of, is_better, Cost, Formula};
 pub use index::{index, IndexView, Inner};
+pub use least::{count_products_over, least_product_over, Opcodes};
 pub use residual::{completion_over, completions, Completion, Part};
 pub use search::{candidates, layer1, layer2, least_products, product_loops, two_atoms, Trial};
 

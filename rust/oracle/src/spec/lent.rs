@@ -161,9 +161,8 @@ impl ProductSearch<'_> {
     /// Gates up to 4, and both atoms below the count.
     fn are_pairs_good(&self) -> bool {
         let is_atom = |slot: u32| u64::from(slot) < self.count;
-        let pairs = self.words.chunks_exact(3).take(self.pairs.count as usize);
-        let is_good = |pair: &[u32]| pair[0] <= 4 && is_atom(pair[1]) && is_atom(pair[2]);
-        pairs.map(is_good).all(|good| good)
+        let mut pairs = self.words.chunks_exact(3).take(self.pairs.count as usize);
+        pairs.all(|pair| pair[0] <= 4 && is_atom(pair[1]) && is_atom(pair[2]))
     }
 }
 
