@@ -59,13 +59,13 @@ module _ (w count : ℕ) (atoms : List ℕ) (n : ℕ) (listed target : List ℕ)
   abbrev slots : ℕ → List ℕ
   slots a = slotsFor w (firstWord atoms a) (getD target 0 0) n listed
 
-  in-two : (a b : ℕ) → a < count → b < count → In (Product.ofAtoms a b) all
+  pub in-two : (a b : ℕ) → a < count → b < count → In (Product.ofAtoms a b) all
   unfolding trialsOf withAtoms
   in-two a b ha hb =
       in-left _ (withAtoms count) (withPairs w count atoms n listed target)
       (in-flat (λ (k : ℕ). map (Product.ofAtoms k) (countUp 0 count)) a _ (countUp 0 count) (up-in count a ha) (in-map (Product.ofAtoms a) b (countUp 0 count) (up-in count b hb)))
 
-  in-pair : (a s : ℕ) → a < count → s < n → In (Product.ofPair a s) all
+  pub in-pair : (a s : ℕ) → a < count → s < n → In (Product.ofPair a s) all
   unfolding trialsOf withPairs
   in-pair a s ha hs =
       in-right _ (withAtoms count) (withPairs w count atoms n listed target)

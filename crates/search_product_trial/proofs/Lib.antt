@@ -4,3 +4,4 @@ pub mod Firsts
 pub mod Slots
 pub mod Keeping
 pub mod Rounds
+pub mod Worked

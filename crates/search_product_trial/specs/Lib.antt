@@ -2,3 +2,4 @@
 pub mod Trying
 pub mod Stages
 pub mod Steps
+pub mod Cases

@@ -1,7 +1,7 @@
 //! Differential runs: the originals of binsnake/cobra (`oracle`) and Simjaldek through its binding (`simjaldek`) get the same random
 //! inputs, and every result is compared. Refusals, which the originals don't have, are compared with the plain statement of the
-//! specification's table. Only the differences D1 and D2 of docs/DIFFERENCES.md may appear; `searches` and `products` recognise them by rule. D3 can't:
-//! where gates get words from 2^w up, results are compared with the plain statement in place of the originals.
+//! specification's table. Only the differences D1 and D2 of docs/DIFFERENCES.md may appear; `searches` and `products` recognise them by
+//! rule. D3 can't: where gates get words from 2^w up, results are compared with the plain statement in place of the originals.
 //!
 //! A run is rounds 0, 1, 2 and so on until there are as many comparisons as asked for. A round's inputs come from the seed and the
 //! round's number alone, so that a difference can be run again by both.

@@ -37,8 +37,8 @@ fn main() -> ExitCode {
 
 fn usage() -> ExitCode {
     eprintln!(
-        "usage: differential SEED [products|residuals|loads] COUNT | SEED [products|residuals|loads] round NUMBER | answers {} | differences | \
-         program PATH | load",
+        "usage: differential SEED [products|residuals|loads] COUNT | SEED [products|residuals|loads] round NUMBER | answers {} | \
+         differences | program PATH | load",
         answers::NAMES.join("|")
     );
     ExitCode::from(2)
