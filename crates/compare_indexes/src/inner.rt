@@ -122,5 +122,13 @@ pub fn built_rows(
     atom_rows: &[u64],
 ) -> usize {
     let mut pairs = [0u32; 1500];
-    built_index(&mut pairs, pair_rows, order, w, limit, atom_count, atom_rows)
+    built_index(
+        &mut pairs,
+        pair_rows,
+        order,
+        w,
+        limit,
+        atom_count,
+        atom_rows,
+    )
 }

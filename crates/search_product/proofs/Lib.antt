@@ -4,3 +4,4 @@ pub mod Trials
 pub mod OwnPairs
 pub mod Nothing
 pub mod Cheap
+pub mod Accepted

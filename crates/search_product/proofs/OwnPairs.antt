@@ -67,7 +67,7 @@ part-at (p ∷ ps) rest (suc k) wide h =
     rw (append-assoc (p .row) (encode pairRow ps) rest, past, drop-append-add (p .row) (encode pairRow ps ++ rest) (16 * k))
     (part-at ps rest k (λ i l. wide (suc i) (omega arith)) (omega arith))
 
-rows-long : (ps : List Pair) → ((i : ℕ) → i < length ps → length (getD ps i noPair .row) ≡ 16) → length (encode pairRow ps) ≡ 16 * length ps
+pub rows-long : (ps : List Pair) → ((i : ℕ) → i < length ps → length (getD ps i noPair .row) ≡ 16) → length (encode pairRow ps) ≡ 16 * length ps
 unfolding encode
 rows-long [] wide = refl
 rows-long (p ∷ ps) wide =
@@ -131,7 +131,7 @@ module _ {w count : ℕ} {atoms : List ℕ} {L : ℕ} (fit : Fit w count atoms L
         is = s .row ∙ ap₂ (gateRow (p .gate) w) (rows-at count atoms (p .b) hb) (rows-at count atoms (p .c) hc);
       }
 
-  row-long : (k : ℕ) → k < length pairs → length (getD pairs k noPair .row) ≡ 16
+  pub row-long : (k : ℕ) → k < length pairs → length (getD pairs k noPair .row) ≡ 16
   row-long k h = let s = sound k h in ap length (s .is) ∙ gate-row-long (s .g) (s .b) (s .c) (s .b-below) (s .c-below)
 
   module _ {n : ℕ} {listed order : List ℕ} (own : OwnIndex w count atoms L n listed order) where

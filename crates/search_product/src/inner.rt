@@ -8,6 +8,7 @@ ghost use Rattle.search_product.specs.Answer.{shortArrays, searchRefusal
 
 // The token places of an atom, and the numbers of a pair.
 const ATOM_TOKENS: usize = 6;
+
 const PAIR_WORDS: usize = 3;
 
 // Whether a lent array is shorter than its count needs.

@@ -78,15 +78,7 @@ fn try_atom(
     let mut kept = best;
     let mut b = next_atom(firsts, atoms, a, a, count, target, w);
     while b < count {
-        kept = search_product_trial::inner::offer_atoms(
-            kept,
-            lengths,
-            ops,
-            operands,
-            count,
-            a,
-            b,
-        );
+        kept = search_product_trial::inner::offer_atoms(kept, lengths, ops, operands, count, a, b);
         b = next_atom(firsts, atoms, a, b + 1, count, target, w);
     }
     kept
@@ -109,7 +101,18 @@ fn search_atoms(
     let mut best = Best::nothing();
     let mut a: usize = 0;
     while a < count {
-        best = try_atom(best, firsts, atoms, lengths, ops, operands, a, count, target, w);
+        best = try_atom(
+            best,
+            firsts,
+            atoms,
+            lengths,
+            ops,
+            operands,
+            a,
+            count,
+            target,
+            w,
+        );
         a += 1;
     }
     best

@@ -241,7 +241,20 @@ fn try_pairs(
             }
         }
     }
-    try_slots(best, atoms, lengths, ops, operands, count, a, pairs, listed, n, target, w)
+    try_slots(
+        best,
+        atoms,
+        lengths,
+        ops,
+        operands,
+        count,
+        a,
+        pairs,
+        listed,
+        n,
+        target,
+        w,
+    )
 }
 
 // Every atom, ascending, with every listed pair. m samples narrow each look-up in the order list.

@@ -159,20 +159,20 @@ module _ {count : ℕ} {f : Forms} (w : Written count f) (test : Product → Boo
   -- another atom has a token at least, and Mul is one
   pub atom-dear : best .cost .size < getD (f .lengths) a 0 + 2 → (l : List ℕ) → ((b : ℕ) → In b l → b < count) → Tried f test (map (Product.ofAtoms a) l) best best
   atom-dear h l below = tried-dear f test (map (Product.ofAtoms a) l) best (λ x i.
-    let p = map-in (Product.ofAtoms a) x l i in
-    let hb = below (p .of) (p .at) in
-    let s = atoms-sized w a ha (p .of) hb in
-    subst (λ (y : Product). Roomy (productCost f y) × (best .cost .size < productCost f y .size)) (sym (p .is))
-    (sized-roomy f _ _ s, omega (arith, h, sized-size f _ _ s, atom-some w (p .of) hb, form-length f (p .of))))
+      let p = map-in (Product.ofAtoms a) x l i in
+      let hb = below (p .of) (p .at) in
+      let s = atoms-sized w a ha (p .of) hb in
+      subst (λ (y : Product). Roomy (productCost f y) × (best .cost .size < productCost f y .size)) (sym (p .is))
+      (sized-roomy f _ _ s, omega (arith, h, sized-size f _ _ s, atom-some w (p .of) hb, form-length f (p .of))))
 
   -- a pair has three at least
   pub pairs-dear : {n : ℕ} → Paired count n f → best .cost .size < getD (f .lengths) a 0 + 4 → (l : List ℕ) → ((s : ℕ) → In s l → s < n) → Tried f test (map (Product.ofPair a) l) best best
   pairs-dear paired h l below = tried-dear f test (map (Product.ofPair a) l) best (λ x i.
-    let p = map-in (Product.ofPair a) x l i in
-    let hs = below (p .of) (p .at) in
-    let s = pair-sized w a ha paired (p .of) hs in
-    subst (λ (y : Product). Roomy (productCost f y) × (best .cost .size < productCost f y .size)) (sym (p .is))
-    (sized-roomy f _ _ s, omega (arith, h, sized-size f _ _ s, pair-some w paired (p .of) hs)))
+      let p = map-in (Product.ofPair a) x l i in
+      let hs = below (p .of) (p .at) in
+      let s = pair-sized w a ha paired (p .of) hs in
+      subst (λ (y : Product). Roomy (productCost f y) × (best .cost .size < productCost f y .size)) (sym (p .is))
+      (sized-roomy f _ _ s, omega (arith, h, sized-size f _ _ s, pair-some w paired (p .of) hs)))
 
 -- ---- what fits, by rows
 pub atoms-same : (w : ℕ) (atoms listed target : List ℕ) (a b : ℕ) → fitting w atoms listed target (Product.ofAtoms a b) ≡ fitsAt w target atoms a atoms b

@@ -138,5 +138,9 @@ pub fn offer_pair(
     let right = search_product_forms::inner::pair_info(lengths, ops, operands, pairs, count, n, s);
     let first = a as u32;
     let second = s as u32;
-    best.or_product(Found::AtomPair(AtomSlot(first), PairSlot(second)), left, right)
+    best.or_product(
+        Found::AtomPair(AtomSlot(first), PairSlot(second)),
+        left,
+        right,
+    )
 }

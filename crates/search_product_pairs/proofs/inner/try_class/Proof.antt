@@ -36,8 +36,8 @@ loop-holds c =
     let test = fitting (a .w) (a .atoms .now) (a .listed .now) (a .target .now) in (
       e .sweeping,
       to-pass f test (atPlace (a .a) (a .order .now)) 0 0 (c .first-place .result .at) (a .best) (a .best) (omega arith) (e .from)
-      (λ k l h. pairs-same (a .w) (a .atoms .now) (a .listed .now) (a .target .now) (a .a) _ ∙ skips-narrow (inClass (a .class) (a .listed .now)) (fitsAt (a .w) (a .target .now) (a .atoms .now) (a .a) (a .listed .now)) (a .order .now) 0 _ (s .pre .3 .is) (e .skips) k l h)
-      (to-start f test (atPlace (a .a) (a .order .now)) 0 (a .best)),
+          (λ k l h. pairs-same (a .w) (a .atoms .now) (a .listed .now) (a .target .now) (a .a) _ ∙ skips-narrow (inClass (a .class) (a .listed .now)) (fitsAt (a .w) (a .target .now) (a .atoms .now) (a .a) (a .listed .now)) (a .order .now) 0 _ (s .pre .3 .is) (e .skips) k l h)
+          (to-start f test (atPlace (a .a) (a .order .now)) 0 (a .best)),
     )
 
 walk-run-requires : tie.Need-walk-run-requires Inv-loop μ-loop
@@ -99,9 +99,9 @@ loop-again c =
     let at = r .result .at in (
       e .sweeping,
       to-pass f test g 0 (at + 1) (c .next-from .result .at) (a .best) (c .before .offer-pair .result) (omega arith) (e .from)
-      (λ k m h. same _ ∙ skips-narrow (inClass (a .class) (a .listed .now)) (fitsAt (a .w) (a .target .now) (a .atoms .now) (a .a) (a .listed .now)) (a .order .now) (at + 1) _ (s .pre .3 .is) (e .skips) k m h)
-      (to-offer f test g 0 at (a .best) (l .kept) (c .before .offer-pair .result) (omega arith) (same _ ∙ hit .1) (c .before .offer-pair .ensures)
-      (to-pass f test g 0 (l .place .at) at (a .best) (l .kept) (omega arith) (r .ensures .from) (λ k m h. same _ ∙ r .ensures .skips k m h) (l .inv .1))),
+          (λ k m h. same _ ∙ skips-narrow (inClass (a .class) (a .listed .now)) (fitsAt (a .w) (a .target .now) (a .atoms .now) (a .a) (a .listed .now)) (a .order .now) (at + 1) _ (s .pre .3 .is) (e .skips) k m h)
+          (to-offer f test g 0 at (a .best) (l .kept) (c .before .offer-pair .result) (omega arith) (same _ ∙ hit .1) (c .before .offer-pair .ensures)
+          (to-pass f test g 0 (l .place .at) at (a .best) (l .kept) (omega arith) (r .ensures .from) (λ k m h. same _ ∙ r .ensures .skips k m h) (l .inv .1))),
     )
 
 next-from-requires-2 : tie.Need-next-from-requires-2 Inv-loop μ-loop
@@ -130,8 +130,8 @@ loop-again-2 c =
     let at = r .result .at in (
       e .sweeping,
       to-pass f test g 0 (l .place .at) (c .next-from2 .result .at) (a .best) (l .kept) (omega arith) (omega (arith, r .ensures .from, e .from))
-      (λ k m h. pairs-same (a .w) (a .atoms .now) (a .listed .now) (a .target .now) (a .a) _ ∙ skips-join fit (a .order .now) (l .place .at) at _ (r .ensures .skips) (skips-narrow (inClass (a .class) (a .listed .now)) fit (a .order .now) at _ (s .pre .3 .is) (e .skips)) k m h)
-      (l .inv .1),
+          (λ k m h. pairs-same (a .w) (a .atoms .now) (a .listed .now) (a .target .now) (a .a) _ ∙ skips-join fit (a .order .now) (l .place .at) at _ (r .ensures .skips) (skips-narrow (inClass (a .class) (a .listed .now)) fit (a .order .now) at _ (s .pre .3 .is) (e .skips)) k m h)
+          (l .inv .1),
     )
 
 returns : tie.Need-returns Inv-loop μ-loop

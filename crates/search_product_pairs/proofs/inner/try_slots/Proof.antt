@@ -35,8 +35,8 @@ loop-holds c =
       e .to,
       e .stops,
       to-pass f test (Product.ofPair (a .a)) 0 0 (c .next-slot .result) (a .best) (a .best) (omega arith) (e .from)
-      (λ k l h. pairs-same (a .w) (a .atoms .now) (a .listed .now) (a .target .now) (a .a) k ∙ e .skips k l h)
-      (to-start f test (Product.ofPair (a .a)) 0 (a .best)),
+          (λ k l h. pairs-same (a .w) (a .atoms .now) (a .listed .now) (a .target .now) (a .a) k ∙ e .skips k l h)
+          (to-start f test (Product.ofPair (a .a)) 0 (a .best)),
     )
 
 offer-pair-requires : tie.Need-offer-pair-requires Inv-loop μ-loop
@@ -66,8 +66,8 @@ loop-again c =
       e .to,
       e .stops,
       to-pass f test (Product.ofPair (a .a)) 0 (l .s + 1) (c .next-slot2 .result) (a .best) (c .before .offer-pair .result) (omega arith) (e .from)
-      (λ k m h. same k ∙ e .skips k m h)
-      (to-offer f test (Product.ofPair (a .a)) 0 (l .s) (a .best) (l .kept) (c .before .offer-pair .result) (omega arith) (same (l .s) ∙ l .inv .1 (c .before .before .loop-test .taken)) (c .before .offer-pair .ensures) (l .inv .2)),
+          (λ k m h. same k ∙ e .skips k m h)
+          (to-offer f test (Product.ofPair (a .a)) 0 (l .s) (a .best) (l .kept) (c .before .offer-pair .result) (omega arith) (same (l .s) ∙ l .inv .1 (c .before .before .loop-test .taken)) (c .before .offer-pair .ensures) (l .inv .2)),
     )
 
 returns : tie.Need-returns Inv-loop μ-loop
