@@ -1,45 +1,39 @@
 -- What a bank build and an index build over it left passes the product search's tests. Assumes nothing.
-use mathlib.Core.Path.{_≡_, refl, sym, ap, ap₂, _∙_, subst}
+use mathlib.Core.Path.{_≡_, refl, sym, ap, _∙_}
 use mathlib.Core.Bool.{Bool, true, false, not}
-use mathlib.Core.List.{List, _++_}
-use mathlib.Core.Option.{Option, none}
-use Prim.Native.Nat.{ℕ, _+_, _*_, _/_, _^_, _≤_, _<_}
+use mathlib.Core.List.{List}
+use Prim.Native.Nat.{ℕ, _+_, _*_, _/_, _≤_, _<_}
 use native.Mathlib.Nat.{le-div-iff-mul-le, mul-comm}
 use native.Mathlib.Omega.{arith}
 use borrow.Author.Tests.{le-ltb, lt-leb}
-use lib.Dec.{ltb, leb}
+use lib.Dec.{ltb}
 use lib.ListN.{length, getD, take, drop, length-append}
 use lib.Seq.{getD-take}
-use Rattle.arrays.specs.Lists.{countUp, firstThat}
-use Rattle.arrays.specs.Parts.{partAt, encode, spread}
+use Rattle.arrays.specs.Parts.{encode, spread}
 use Rattle.arrays.proofs.Lists.{up-nothing}
 use Rattle.arrays.proofs.Parts.{length-encode, getD-part, encode-part}
-use Rattle.limits.specs.Refusal.{badCount, badWidth, answer}
+use Rattle.limits.specs.Refusal.{badCount, badWidth}
 use Rattle.limits.proofs.Refusals.{or-later, refused-later, within, inside, passed, unless-not}
 use Rattle.row_gates.specs.Gates.{gateNumber}
 use Rattle.row_gates.specs.declared.Gate.{Gate}
 use Rattle.row_gates.specs.declared.Gate.the-variants.{And, Or, Xor, Add, Mul}
-use Rattle.row_lent.specs.Range.{reaches}
 use Rattle.expr.specs.Formula.{isSome, tokens, isFormula}
 use Rattle.expr.proofs.Machine.{formula-more}
-use Rattle.probe_points.specs.declared.Point.{Point}
 use Rattle.bank_spec.specs.Push.{Atom, noAtom}
 use Rattle.bank_spec.specs.Bank.{bankOf}
 use Rattle.bank_spec.specs.Encoding as Bank
-use Rattle.bank_spec.specs.Encoding.{lengthPart, opsPart, operandsPart, rowPart, written}
+use Rattle.bank_spec.specs.Encoding.{lengthPart, opsPart, operandsPart, written}
 use Rattle.bank_spec.proofs.Banks.{bank-is-sound}
-use Rattle.bank_spec.proofs.Encodings.{length-wide, ops-wide, operands-wide, row-wide, form-back, length-at, ops-at, operands-at}
-use Rattle.bank.specs.declared.BankAnswer.{BankAnswer}
-use Rattle.bank.specs.Build.{BankBuilt, bankSays, bankRefusal, sizesOf}
-use Rattle.index_order.specs.Order.{firstWord, orderOf, isOrder}
+use Rattle.bank_spec.proofs.Encodings.{length-wide, ops-wide, operands-wide, form-back, length-at, ops-at, operands-at}
+use Rattle.bank.specs.Build.{bankRefusal, sizesOf}
+use Rattle.index_order.specs.Order.{orderOf}
 use Rattle.index_order.proofs.OrderLaws.{order-length, order-same, order-exactly}
 use Rattle.index_spec.specs.Index.{Pair, allGates, rowsOf}
 use Rattle.index_spec.specs.Encoding.{pairPart, pairRow}
 use Rattle.index_spec.specs.Facts.{noPair}
 use Rattle.index_spec.proofs.IndexLaws.{index-is-sound, at-most-limit}
 use Rattle.index_spec.proofs.RowLaws.{length-rowsOf}
-use Rattle.index.specs.declared.IndexAnswer.{IndexAnswer}
-use Rattle.index.specs.Build.{Arrays, Summary, IndexBuilt, indexSays, indexRefusal, lentIndex, summaryOf, orderList}
+use Rattle.index.specs.Build.{Arrays, Summary, indexRefusal, lentIndex, summaryOf, orderList}
 use Rattle.index.proofs.Passing as index
 use Rattle.search_product_forms.specs.Forms.{Forms, atomForm, pairGate, pairB, pairC}
 use Rattle.search_product_forms.specs.Refusals.{someBelow, badAtom, badPair}

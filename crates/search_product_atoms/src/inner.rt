@@ -2,7 +2,6 @@
 use limits::ATOMS_MAX;
 use row_gates::ROW_WORDS;
 use search_product_trial::inner::Best;
-ghost use mathlib.Core.Path.{_≡_};
 ghost use mathlib.Core.List.{List, map};
 ghost use Prim.Native.Nat.{ℕ, _-_, _*_, _≤_, _<_};
 ghost use lib.ListN.{length};

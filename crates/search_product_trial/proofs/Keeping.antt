@@ -2,7 +2,7 @@
 use mathlib.Core.Path.{_≡_, refl, sym, ap, ap₂, _∙_, subst}
 use mathlib.Core.Bool.{Bool, true, false, cond}
 use mathlib.Core.Logic.{inl, inr}
-use mathlib.Core.List.{List, [], _++_, map}
+use mathlib.Core.List.{List, _++_, map}
 use mathlib.Core.Option.{Option, none, some}
 use Prim.Native.Nat.{ℕ, _+_, _-_, _≤_, _<_}
 use native.Mathlib.Omega.{arith}
@@ -15,12 +15,12 @@ use Rattle.row_gates.specs.declared.Gate.the-variants.{Mul}
 use Rattle.expr.specs.Formula.{isFormula}
 use Rattle.expr_cost.specs.declared.Cost.{Cost}
 use Rattle.expr_cost.specs.declared.CostInfo.{CostInfo}
-use Rattle.expr_cost.specs.Cost.{infoOf, costOf, infoGate, isBetter, Roomy}
+use Rattle.expr_cost.specs.Cost.{infoOf, infoGate, isBetter, Roomy}
 use Rattle.expr_cost.proofs.Costs.{better-irrefl, better-trans, not-better-trans, size-better, size-not-better}
 use Rattle.expr_cost.proofs.Formulas.{cost-roomy, tokens-le-size}
-use Rattle.search_product_forms.specs.Forms.{Forms, atomForm, pairForm, gated}
+use Rattle.search_product_forms.specs.Forms.{Forms, atomForm, pairForm}
 use Rattle.search_product_forms.specs.Written.{Written, Paired}
-use Rattle.search_product_forms.proofs.Forming.{form-length, gated-passes, gated-info, gated-length, atom-short, atom-some, pair-formula, pair-short, pair-some, pair-length}
+use Rattle.search_product_forms.proofs.Forming.{form-length, gated-passes, gated-info, gated-length, atom-short, atom-some, pair-formula, pair-short, pair-some}
 use Rattle.search_product_trial.specs.declared.inner.Found.{Found}
 use Rattle.search_product_trial.specs.declared.inner.Best.{Best}
 use Rattle.search_product_trial.specs.Trying.{Product, fitting, productForm, productCost, cheaper}

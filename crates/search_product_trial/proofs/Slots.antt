@@ -1,10 +1,9 @@
 -- Laws of the two orders in which an atom's pairs are tried. Assumes nothing.
-use mathlib.Core.Path.{_≡_, refl, subst}
+use mathlib.Core.Path.{refl, subst}
 use mathlib.Core.Bool.{Bool, true, false, cond}
 use mathlib.Core.List.{List}
 use Prim.Native.Nat.{ℕ, _%_, _^_, _<_}
 use native.Mathlib.Omega.{arith}
-use lib.ListN.{length}
 use Rattle.arrays.specs.Lists.{In, countUp}
 use Rattle.arrays.proofs.Lists.{up-in, in-up, in-at, in-place}
 use Rattle.index_order.specs.Order.{orderOf}

@@ -13,7 +13,6 @@ use Rattle.search_filter.specs.Refusals.{shortPairs}
 use Rattle.search_product_forms.specs.Refusals.{shortForms}
 use Rattle.search_product_forms.specs.Written.{forms}
 use Rattle.search_product_forms.proofs.Forming.{bad-any, fits-of, Fits}
-use Rattle.search_product.specs.Answer.{shortArrays}
 use Rattle.search_product.proofs.inner.search_refusal.Statement.{statement}
 use Rattle.search_product.proofs.inner.search_refusal.Tie as tie
 

@@ -3,7 +3,6 @@ use mathlib.Core.List.{[]}
 use Rattle.search_product_forms.specs.Written.{forms}
 use Rattle.search_product_forms.proofs.Forming.{written-any}
 use Rattle.search_product_trial.proofs.Rounds.{both}
-use borrow.Author.Needs.{needs}
 use Rattle.search_product.proofs.inner.search_rows.Statement.{statement}
 use Rattle.search_product.proofs.inner.search_rows.Tie as tie
 

@@ -10,7 +10,6 @@ use Rattle.search_product_trial.specs.Steps.{fitsAt}
 use Rattle.search_product_trial.proofs.Keeping.{TriedTo, to-start, to-pass, to-offer, pairs-same}
 use Rattle.search_product_pairs.proofs.Slots.{atPlace, places-all}
 use native.Mathlib.Omega.{arith}
-use borrow.Author.Needs.{needs}
 use Rattle.search_product_pairs.proofs.inner.try_class.Statement.{statement}
 use Rattle.search_product_pairs.proofs.inner.try_class.Tie as tie
 

@@ -2,7 +2,6 @@
 use mathlib.Core.Path.{sym, ap, _∙_}
 use Rattle.expr_cost.specs.declared.CostInfo.{CostInfo}
 use Rattle.search_product_trial.proofs.Keeping.{compared-better, compared-not}
-use native.Mathlib.Omega.{arith}
 use borrow.Author.Needs.{needs}
 use Rattle.search_product_trial.proofs.inner.Best.or_product.Statement.{statement}
 use Rattle.search_product_trial.proofs.inner.Best.or_product.Tie as tie
