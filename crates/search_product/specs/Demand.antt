@@ -60,7 +60,7 @@ abbrev pub Uncut : ℕ → ℕ → List ℕ → ℕ → Type 0
 Uncut w count atoms L = length (allPairs w allGates (rowsOf count atoms)) ≤ L
 
 -- ---- the statements
--- for every lent bank, built or not
+-- for every lent bank, built or not, whatever formulas and pairs' words are lent with its rows
 abbrev pub NothingExactly : Type 0
 NothingExactly =
     (w count : ℕ) (atoms : List ℕ) (L n : ℕ) (listed order target : List ℕ) (f : Forms) (found : Option Product)

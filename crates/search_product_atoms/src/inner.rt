@@ -7,7 +7,7 @@ ghost use Prim.Native.Nat.{ℕ, _-_, _*_, _≤_, _<_};
 ghost use lib.ListN.{length};
 ghost use Rattle.arrays.specs.Lists.{countUp};
 ghost use Rattle.arrays.specs.Least.{leastThat};
-ghost use Rattle.search_product_forms.specs.Written.{forms, ofAtoms, Written};
+ghost use Rattle.search_product_forms.specs.Written.{forms, atomForms, Written};
 ghost use Rattle.search_product_trial.specs.Trying.{Product, fitting, withAtoms, cheaper};
 ghost use Rattle.search_product_trial.specs.Stages.{Keeps, Tried};
 ghost use Rattle.search_product_trial.specs.Steps.{fitsAt, Target, Next};
@@ -68,7 +68,7 @@ fn try_atom(
     target: &[u64],
     w: u32,
 ) -> Best
-    requires { ⌜ FirstWords (now atoms) count (now firsts) × (a < count) × (16 * count ≤ length (now atoms)) × Target w (now target) × Written count (ofAtoms (now lengths) (now ops) (now operands)) ⌝ }
+    requires { ⌜ FirstWords (now atoms) count (now firsts) × (a < count) × (16 * count ≤ length (now atoms)) × Target w (now target) × Written count (atomForms (now lengths) (now ops) (now operands)) ⌝ }
     ensures { λ r. ⌜ ((listed pairs : List ℕ) → Tried (forms (now (lengths .entry)) (now (ops .entry)) (now (operands .entry)) pairs) (fitting w (now (atoms .entry)) listed (now (target .entry))) (map (Product.ofAtoms a) (countUp a (count - a))) best r) ⌝ }
 {
     if !best.may_beat(lengths[a] + OTHER_TOKENS) {
@@ -94,7 +94,7 @@ fn search_atoms(
     target: &[u64],
     w: u32,
 ) -> Best
-    requires { ⌜ FirstWords (now atoms) count (now firsts) × (16 * count ≤ length (now atoms)) × Target w (now target) × Written count (ofAtoms (now lengths) (now ops) (now operands)) ⌝ }
+    requires { ⌜ FirstWords (now atoms) count (now firsts) × (16 * count ≤ length (now atoms)) × Target w (now target) × Written count (atomForms (now lengths) (now ops) (now operands)) ⌝ }
     ensures { λ r. ⌜ ((listed pairs : List ℕ) → Keeps (forms (now (lengths .entry)) (now (ops .entry)) (now (operands .entry)) pairs) (leastThat (fitting w (now (atoms .entry)) listed (now (target .entry))) (cheaper (forms (now (lengths .entry)) (now (ops .entry)) (now (operands .entry)) pairs)) (withAtoms count)) r) ⌝ }
 {
     let mut best = Best::nothing();
@@ -127,7 +127,7 @@ pub fn two_atoms(
     target: &[u64],
     w: u32,
 ) -> Best
-    requires { ⌜ (16 * count ≤ length (now atoms)) × Target w (now target) × Written count (ofAtoms (now lengths) (now ops) (now operands)) ⌝ }
+    requires { ⌜ (16 * count ≤ length (now atoms)) × Target w (now target) × Written count (atomForms (now lengths) (now ops) (now operands)) ⌝ }
     ensures { λ r. ⌜ ((listed pairs : List ℕ) → Keeps (forms (now (lengths .entry)) (now (ops .entry)) (now (operands .entry)) pairs) (leastThat (fitting w (now (atoms .entry)) listed (now (target .entry))) (cheaper (forms (now (lengths .entry)) (now (ops .entry)) (now (operands .entry)) pairs)) (withAtoms count)) r) ⌝ }
 {
     let mut firsts: [u64; ATOMS_MAX] = [0; ATOMS_MAX];

@@ -16,7 +16,8 @@ abbrev pub shortForms : ℕ → ℕ → Forms → Bool
 shortForms count n f =
     ltb (length (f .lengths)) count || (ltb (length (f .ops) / 6) count || (ltb (length (f .operands) / 6) count || ltb (length (f .pairs) / 3) n))
 
--- 02, 2.4: 6 also covers an atom over 6 tokens or failing 01's test with six variables
+-- 02, 2.4: 6 also covers an atom over 6 tokens or failing 01's test with six variables. An atom has six places, so that a seventh token is none: the first part
+-- says what the second implies
 abbrev pub badAtom : Forms → ℕ → Bool
 badAtom f k = ltb 6 (getD (f .lengths) k 0) || not (isFormula 6 (atomForm f k))
 

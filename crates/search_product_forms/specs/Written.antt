@@ -12,8 +12,8 @@ abbrev pub forms : List ℕ → List ℕ → List ℕ → List ℕ → Forms
 forms lengths ops operands pairs = record { lengths = lengths; ops = ops; operands = operands; pairs = pairs }
 
 -- the atoms alone
-abbrev pub ofAtoms : List ℕ → List ℕ → List ℕ → Forms
-ofAtoms lengths ops operands = forms lengths ops operands []
+abbrev pub atomForms : List ℕ → List ℕ → List ℕ → Forms
+atomForms lengths ops operands = forms lengths ops operands []
 
 -- arrays long enough for `count` atoms
 pub record Room (count : ℕ) (f : Forms) : Type 0 where

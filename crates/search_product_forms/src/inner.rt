@@ -7,7 +7,7 @@ ghost use lib.ListN.{length, getD};
 ghost use Rattle.expr_cost.specs.Cost.{infoOf};
 ghost use Rattle.search_product_forms.specs.Forms.{atomForm, pairForm};
 ghost use Rattle.search_product_forms.specs.Refusals.{badAtom, badAtoms, badWords, badPairs};
-ghost use Rattle.search_product_forms.specs.Written.{forms, ofAtoms, Room, Short, Written, Paired};
+ghost use Rattle.search_product_forms.specs.Written.{forms, atomForms, Room, Short, Written, Paired};
 
 // The token places of an atom.
 const ATOM_TOKENS: usize = 6;
@@ -23,8 +23,8 @@ const GATE_MAX: u32 = 4;
 
 // Whether atom k has over 6 tokens or is no formula over six variables.
 fn bad_atom(lengths: &[u32], ops: &[u8], operands: &[u64], count: usize, k: usize) -> bool
-    requires { ⌜ Room count (ofAtoms (now lengths) (now ops) (now operands)) × (k < count) ⌝ }
-    ensures { λ r. ⌜ r ≡ badAtom (ofAtoms (now (lengths .entry)) (now (ops .entry)) (now (operands .entry))) k ⌝ }
+    requires { ⌜ Room count (atomForms (now lengths) (now ops) (now operands)) × (k < count) ⌝ }
+    ensures { λ r. ⌜ r ≡ badAtom (atomForms (now (lengths .entry)) (now (ops .entry)) (now (operands .entry))) k ⌝ }
 {
     let length = lengths[k] as usize;
     if ATOM_TOKENS < length {
@@ -41,8 +41,8 @@ fn bad_atom(lengths: &[u32], ops: &[u8], operands: &[u64], count: usize, k: usiz
 
 // Whether one of the atoms is bad, however many are claimed.
 pub fn bad_atoms(lengths: &[u32], ops: &[u8], operands: &[u64], count: usize) -> bool
-    requires { ⌜ Room count (ofAtoms (now lengths) (now ops) (now operands)) ⌝ }
-    ensures { λ r. ⌜ r ≡ badAtoms count (ofAtoms (now (lengths .entry)) (now (ops .entry)) (now (operands .entry))) ⌝ }
+    requires { ⌜ Room count (atomForms (now lengths) (now ops) (now operands)) ⌝ }
+    ensures { λ r. ⌜ r ≡ badAtoms count (atomForms (now (lengths .entry)) (now (ops .entry)) (now (operands .entry))) ⌝ }
 {
     let mut k: usize = 0;
     while k < count {
@@ -85,8 +85,8 @@ pub fn bad_pairs(pairs: &[u32], n: usize, count: usize) -> bool
 
 // The cost of atom k's formula, from its tokens.
 pub fn atom_info(lengths: &[u32], ops: &[u8], operands: &[u64], count: usize, k: usize) -> CostInfo
-    requires { ⌜ Written count (ofAtoms (now lengths) (now ops) (now operands)) × (k < count) ⌝ }
-    ensures { λ r. ⌜ r ≡ infoOf (atomForm (ofAtoms (now (lengths .entry)) (now (ops .entry)) (now (operands .entry))) k) ⌝ }
+    requires { ⌜ Written count (atomForms (now lengths) (now ops) (now operands)) × (k < count) ⌝ }
+    ensures { λ r. ⌜ r ≡ infoOf (atomForm (atomForms (now (lengths .entry)) (now (ops .entry)) (now (operands .entry))) k) ⌝ }
 {
     let length = lengths[k] as usize;
     let base = ATOM_TOKENS * k;

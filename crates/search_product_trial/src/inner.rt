@@ -15,7 +15,7 @@ ghost use lib.ListN.{length};
 ghost use Rattle.row_gates.specs.declared.Gate.the-variants.{Mul};
 ghost use Rattle.expr_cost.specs.Cost.{infoGate, isBetter, Roomy};
 ghost use Rattle.search_product_forms.specs.Forms.{Forms};
-ghost use Rattle.search_product_forms.specs.Written.{forms, ofAtoms, Written, Paired};
+ghost use Rattle.search_product_forms.specs.Written.{forms, atomForms, Written, Paired};
 ghost use Rattle.search_product_trial.specs.Trying.{Product};
 ghost use Rattle.search_product_trial.specs.Stages.{Keeps, Offered, bestOf};
 ghost use Rattle.search_product_trial.specs.Steps.{fitsAt, Target};
@@ -102,7 +102,7 @@ pub fn offer_atoms(
     a: usize,
     b: usize,
 ) -> Best
-    requires { ⌜ Written count (ofAtoms (now lengths) (now ops) (now operands)) × (a < count) × (b < count) ⌝ }
+    requires { ⌜ Written count (atomForms (now lengths) (now ops) (now operands)) × (a < count) × (b < count) ⌝ }
     ensures { λ r. ⌜ ((pairs : List ℕ) → Offered (forms (now (lengths .entry)) (now (ops .entry)) (now (operands .entry)) pairs) (Product.ofAtoms a b) best r) ⌝ }
 {
     if !best.may_beat(lengths[a] + lengths[b] + 1) {

@@ -8,8 +8,8 @@ const VARIABLES_MAX: u32 = 6;
 
 /// What the product search answers, in the atoms and pairs that it searched: the cheapest product that has the row, and the first in the
 /// order of the search among equals. A pair that isn't listed is not among them: a cut index lacks some, and of pairs with one row an index
-/// lists the first. Answers are equal within one index; across copies compare [`slots`](ProductAnswer::slots) or
-/// [`postfix`](ProductAnswer::postfix).
+/// lists the first, and none whose row an atom has. Answers are equal within one index; across copies compare
+/// [`slots`](ProductAnswer::slots) or [`postfix`](ProductAnswer::postfix).
 #[derive(Clone, Copy, Debug, PartialEq, Eq)]
 pub enum ProductAnswer<'i> {
     /// Two atoms whose product has the row.

@@ -4,11 +4,11 @@
 //! product search rightly answers `c0 c0 *`, and with all bits set in each variable the formula is 2. Comparing the two beyond the
 //! points, before one takes the other's place, is for the layer above, as cobra does with samples. A product that is found is the
 //! cheapest of those that fit, of two atoms and of an atom and a listed pair, by the cost of the whole formula written out, and among
-//! equals the first in the order of the search; an index lists one pair for a row, the first, so that a shorter one may exist. An xor
-//! or a sum is the first that fits, not the cheapest. "Nothing" is about the forms that were searched, with a, b, c atoms of this bank
-//! and g a gate: a × b and a × (b g c) by the product search, a ^ b, a + b, a ^ (b g c) and a + (b g c) by the residual search. It is
-//! certain only where the index is whole: with six variables and widths from 6 up most formulas' own rows make more pairs than 262,144,
-//! and the index is cut there.
+//! equals the first in the order of the search; an index lists one pair for a row, the first, and none whose row an atom has, so that a
+//! shorter one may exist. An xor or a sum is the first that fits, not the cheapest. "Nothing" is about the forms that were searched,
+//! with a, b, c atoms of this bank and g a gate: a × b and a × (b g c) by the product search, a ^ b, a + b, a ^ (b g c) and a + (b g c)
+//! by the residual search. It is certain only where the index is whole: with six variables and widths from 6 up most formulas' own rows
+//! make more pairs than 262,144, and the index is cut there.
 //!
 //! ```
 //! use simjaldek::{Bank, Index, Points, PAIRS_MAX};

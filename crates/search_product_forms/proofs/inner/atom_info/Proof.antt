@@ -5,7 +5,7 @@ use Rattle.expr.specs.Formula.{isFormula}
 use Rattle.expr_cost.specs.declared.inner.SpanCost.{SpanCost}
 use Rattle.expr_cost.specs.Cost.{infoOf}
 use Rattle.expr_cost.proofs.Spans.{whole-ends, whole-info}
-use Rattle.search_product_forms.specs.Written.{ofAtoms}
+use Rattle.search_product_forms.specs.Written.{atomForms}
 use Rattle.search_product_forms.proofs.Forming.{form-is}
 use native.Mathlib.Omega.{arith}
 use borrow.Author.Needs.{needs}
@@ -57,14 +57,14 @@ cost-before-requires : tie.Need-cost-before-requires
 cost-before-requires c κs =
     let s = c .before .before .before .before .before .before in
     let a = s .args in
-    let f = ofAtoms (a .lengths .now) (a .ops .now) (a .operands .now) in
+    let f = atomForms (a .lengths .now) (a .ops .now) (a .operands .now) in
     whole-ends 6 (getD (a .lengths .now) (a .k) 0) _ _ (ap (isFormula 6) (form-is f (a .k)) ∙ s .pre .0 .formula (a .k) (s .pre .1))
 
 returns : tie.Need-returns
 returns c =
     let s = c .before .before .before .before .before .before .before .before in
     let a = s .args in
-    let f = ofAtoms (a .lengths .now) (a .ops .now) (a .operands .now) in
+    let f = atomForms (a .lengths .now) (a .ops .now) (a .operands .now) in
     ap (λ (x : SpanCost). x .info) (c .before .cost-before .ensures)
     ∙ whole-info 6 (getD (a .lengths .now) (a .k) 0) _ _ (ap (isFormula 6) (form-is f (a .k)) ∙ s .pre .0 .formula (a .k) (s .pre .1))
     ∙ ap infoOf (form-is f (a .k))

@@ -6,7 +6,7 @@ use borrow.Author.Tests.{lt-ltb, le-ltb}
 use Rattle.limits.proofs.Refusals.{or-here, or-later}
 use Rattle.expr.specs.declared.Token.{Token}
 use Rattle.expr.specs.Formula.{isFormula}
-use Rattle.search_product_forms.specs.Written.{ofAtoms}
+use Rattle.search_product_forms.specs.Written.{atomForms}
 use Rattle.search_product_forms.proofs.Forming.{form-is}
 use native.Mathlib.Omega.{arith}
 use borrow.Author.Needs.{needs}
@@ -64,7 +64,7 @@ returns-2 : tie.Need-returns-2
 returns-2 c =
     let e = c .before .before .before in
     let a = e .before .before .before .before .before .args in
-    sym (or-later (le-ltb _ _ (e .if1 .left)) (ap (λ (ts : List Token). not (isFormula 6 ts)) (sym (form-is (ofAtoms (a .lengths .now) (a .ops .now) (a .operands .now)) (a .k))) ∙ ap not (sym (c .is-formula .ensures))))
+    sym (or-later (le-ltb _ _ (e .if1 .left)) (ap (λ (ts : List Token). not (isFormula 6 ts)) (sym (form-is (atomForms (a .lengths .now) (a .ops .now) (a .operands .now)) (a .k))) ∙ ap not (sym (c .is-formula .ensures))))
 
 pub bad-atom-spec : {M : Type 1} → statement M
 bad-atom-spec =
