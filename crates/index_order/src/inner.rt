@@ -19,10 +19,11 @@ pub fn is_order(rows: &[u64], n: usize, order: &[u32]) -> bool
             return false;
         }
         let w = rows[row_gates::ROW_WORDS * s];
-        if w < word {
-            return false;
-        }
-        if w == word {
+        // one test for most entries: first words are seldom equal
+        if w <= word {
+            if w < word {
+                return false;
+            }
             if s < least {
                 return false;
             }
