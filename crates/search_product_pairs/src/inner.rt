@@ -26,7 +26,7 @@ struct RunStop {
 const SAMPLES_MAX: usize = 4096;
 
 // With no more pairs than these, the samples cost more than they save.
-const UNSAMPLED_MAX: usize = 16384;
+const UNSAMPLED_MAX: usize = 4096;
 
 // An atom's product with a pair has four tokens more than the atom at least.
 const OTHER_TOKENS: u32 = 4;
