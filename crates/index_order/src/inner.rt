@@ -19,14 +19,13 @@ pub fn is_order(rows: &[u64], n: usize, order: &[u32]) -> bool
             return false;
         }
         let w = rows[row_gates::ROW_WORDS * s];
-        // one test for most entries: first words are seldom equal
-        if w <= word {
-            if w < word {
-                return false;
-            }
-            if s < least {
-                return false;
-            }
+        if w < word {
+            return false;
+        }
+        // by how much the word must be greater: no branch, since a wrong guess would wait for the row
+        let step: u64 = if s < least { 1 } else { 0 };
+        if w - word < step {
+            return false;
         }
         word = w;
         least = s + 1;

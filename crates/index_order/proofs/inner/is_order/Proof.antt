@@ -2,7 +2,7 @@
 use mathlib.Core.Path.{_≡_, sym}
 use mathlib.Core.Logic.{inl, inr}
 use mathlib.Core.List.{List}
-use Prim.Native.Nat.{ℕ, _≤_, _-_}
+use Prim.Native.Nat.{ℕ, _≤_, _<_, _-_}
 use lib.ListN.{take, getD}
 use Rattle.index_order.specs.Order.{firstWord, isOrder}
 use Rattle.index_order.proofs.Tested.{Passed, passed-more, passed-all, fails-low, fails-word, fails-slot, is-false}
@@ -57,17 +57,22 @@ shared-slice-read-w c = search needs
 
 returns-2 : tie.Need-returns-2 Inv-loop μ-loop
 returns-2 c =
-    let b = c .before .before .before .before .before in
+    let b = c .before .before .before .before in
     let o = b .before .loop in
     let n = b .before .before .args .n in
-    is-false (isOrder n (R b) (take n (L b))) (fails-word (R b) (L b) n (o .word) (o .least) (o .i) (o .inv .1) (omega arith) (omega arith) (c .if3 .taken))
+    is-false (isOrder n (R b) (take n (L b))) (fails-word (R b) (L b) n (o .word) (o .least) (o .i) (o .inv .1) (omega arith) (omega arith) (c .if2 .taken))
 
 returns-3 : tie.Need-returns-3 Inv-loop μ-loop
 returns-3 c =
     let b = c .before .before .before .before .before .before in
     let o = b .before .loop in
     let n = b .before .before .args .n in
-    is-false (isOrder n (R b) (take n (L b))) (fails-slot (R b) (L b) n (o .word) (o .least) (o .i) (o .inv .1) (omega arith) (omega arith) (omega (arith, c .before .before .if2 .taken, c .before .if3 .left)) (c .if4 .taken))
+    let s = getD (L b) (o .i) 0 in
+    let both : (firstWord (R b) s ≡ o .word) × (s < o .least) = elim (c .before .if3 .came) [
+      | inl t ↦ (omega (arith, c .if4 .taken, c .before .before .if2 .left, t .1), t .0 .taken)
+      | inr f ↦ absurd (omega (arith, c .if4 .taken, f .1))
+    ] in
+    is-false (isOrder n (R b) (take n (L b))) (fails-slot (R b) (L b) n (o .word) (o .least) (o .i) (o .inv .1) (omega arith) (omega arith) (both .0) (both .1))
 
 add-least : tie.Need-add-least Inv-loop μ-loop
 add-least c = search needs
@@ -77,15 +82,15 @@ loop-less c = search needs
 
 loop-again : tie.Need-loop-again Inv-loop μ-loop
 loop-again c =
-    let b = c .before .before .before .before in
+    let b = c .before .before .before .before .before .before in
     let o = b .before .loop in
     let n = b .before .before .args .n in
     let s = getD (L b) (o .i) 0 in
-    let both : (o .word ≤ firstWord (R b) s) × (firstWord (R b) s ≡ o .word → o .least ≤ s) = elim (c .if2 .came) [
-      | inl t ↦ (t .1 .left, λ _. t .2 .left)
-      | inr f ↦ (omega (arith, f .left), λ e. absurd (omega (arith, f .left, e)))
+    let slot : firstWord (R b) s ≡ o .word → o .least ≤ s = λ e. elim (c .before .if3 .came) [
+      | inl t ↦ absurd (omega (arith, c .if4 .left, t .1, e))
+      | inr f ↦ f .0 .left
     ] in
-    (omega arith, passed-more (R b) (L b) n (o .word) (o .least) (o .i) (o .inv .1) (omega arith) (both .0) (both .1))
+    (omega arith, passed-more (R b) (L b) n (o .word) (o .least) (o .i) (o .inv .1) (omega arith) (c .before .before .if2 .left) slot)
 
 returns-4 : tie.Need-returns-4 Inv-loop μ-loop
 returns-4 c =
