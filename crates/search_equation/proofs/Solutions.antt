@@ -1,7 +1,7 @@
 -- All solutions of p × f = t modulo 2^w: with p = 2^z × o the equation is o × f = t / 2^z modulo 2^(w - z), and o, being odd, has an inverse.
 -- Assumes nothing.
 use mathlib.Core.Path.{_≡_, refl, sym, ap, _∙_, subst}
-use mathlib.Core.Bool.{true, false}
+use mathlib.Core.Bool.{true, false, not}
 use Prim.Native.Nat.{ℕ, zero, suc, _+_, _-_, _*_, _/_, _%_, _^_, _≤_, _<_}
 use native.Mathlib.Nat.{add-comm, add-zero, mul-comm, mul-assoc, mul-mod-right, mod-lt, mod-eq-of-lt, le-of-lt, lt-of-lt-of-le, add-sub-of-le, mul-le-mul-right, zero-mul, suc-mul}
 use native.Mathlib.Decide.{ℕ-discrete}
@@ -12,7 +12,7 @@ use lib.Pow.{pow-pos, pow-mono, pow-add, shr-lt, split}
 use Rattle.arith.specs.Cong.{Cong}
 use Rattle.arith.proofs.Congruence.{cong-trans, cong-eq, cong-multiple, cong-less, cong-scale, cong-unscale}
 use Rattle.arith.proofs.Newton.{times-inverse, of-inverse, odd-has-inverse}
-use Rattle.search_equation.specs.Equation.{zerosOf, used, solves}
+use Rattle.search_equation.specs.Equation.{zerosOf, used, solves, solvable}
 use Rattle.search_equation.specs.declared.inner.Solution.{Solution}
 use Rattle.search_equation.specs.declared.inner.Solution.the-variants.{Class, Nothing}
 use Rattle.search_equation.specs.Solved.{IsClass, IsNone, Solved}
@@ -121,6 +121,16 @@ solutions-exactly w p t wide pos small divides =
 
 pub no-solution : NoSolution
 no-solution w p t wide pos small more f = none w p t (zerosOf p) wide pos small refl (λ e. omega arith) f
+
+-- what isn't solvable has no solution, for a p of 0 too
+pub unsolvable : (w p t : ℕ) → w ≤ 64 → p < 2 ^ w → t < 2 ^ w → solvable p t ≡ false → (f : ℕ) → solves w p t f ≡ false
+unfolding solvable
+unsolvable w p t wide below t-below e f =
+    let some = eqb-false (t % 2 ^ zerosOf p) 0 e in
+    elim (ℕ-discrete p 0) [
+      | yes z ↦ zero-none w p t z t-below (used-zero p t z ∙ ap not (ne-eqb t 0 (λ q. some (ap (λ (x : ℕ). x % 2 ^ zerosOf p) q ∙ mod-eq-of-lt (pow-pos (zerosOf p)))))) f
+      | no n ↦ no-solution w p t wide (omega (arith, n)) below (omega (arith, some)) f
+    ]
 
 -- ---- what an answer of `solve` says
 module _ {w p t : ℕ} {r : Solution} (solved : Solved w p t r) where

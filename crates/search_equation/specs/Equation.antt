@@ -15,3 +15,7 @@ used p t = not (cond (eqb p 0) (eqb t 0) (ltb 8 (zerosOf p) && eqb (t % 2 ^ zero
 -- 01, Candidates: p × f = t modulo 2^w
 unfoldable pub solves : ℕ → ℕ → ℕ → ℕ → Bool
 solves w p t f = eqb (p * f % 2 ^ w) (t % 2 ^ w)
+
+-- 01, Candidates: 2^z divides t. Otherwise no f solves; a p of 0 has 64 zeros, and t is 0 then
+unfoldable pub solvable : ℕ → ℕ → Bool
+solvable p t = eqb (t % 2 ^ zerosOf p) 0

@@ -1,6 +1,6 @@
 // What the candidates and the search call with p and t below 2^w.
 ghost use mathlib.Core.Path.{_≡_};
-ghost use Rattle.search_equation.specs.Equation.{zerosOf, used};
+ghost use Rattle.search_equation.specs.Equation.{zerosOf, used, solvable};
 ghost use Rattle.search_equation.specs.Solved.{Asked, Solved};
 
 // More trailing zeros of p than these, and there are too many solutions to look up.
@@ -31,6 +31,14 @@ pub fn is_used(p: u64, t: u64) -> bool
         return arith::reduce(t, z) != 0;
     }
     true
+}
+
+// Whether 2^z divides t: otherwise p × f = t has no solution.
+pub fn is_solvable(p: u64, t: u64) -> bool
+    ensures { λ r. ⌜ r ≡ solvable p t ⌝ }
+{
+    let z = trailing_zeros(p);
+    arith::reduce(t, z) == 0
 }
 
 // Where the rule says "used": 2^z divides p, so t too or there is none; divided by it, p is odd and has an inverse.

@@ -55,7 +55,7 @@ fn next_atom(
     b
 }
 
-// Atom a with every atom from a on. One that has too many tokens by itself is passed over.
+// Atom a with every atom from a on. One that has too many tokens by itself, or that no row can fit, is passed over.
 fn try_atom(
     best: Best,
     firsts: &[u64],
@@ -72,6 +72,9 @@ fn try_atom(
     ensures { λ r. ⌜ ((listed pairs : List ℕ) → Tried (forms (now (lengths .entry)) (now (ops .entry)) (now (operands .entry)) pairs) (fitting w (now (atoms .entry)) listed (now (target .entry))) (map (Product.ofAtoms a) (countUp a (count - a))) best r) ⌝ }
 {
     if !best.may_beat(lengths[a] + OTHER_TOKENS) {
+        return best;
+    }
+    if !search_product_trial::inner::may_fit(atoms, a, target, w) {
         return best;
     }
     let mut kept = best;

@@ -26,7 +26,8 @@ use Rattle.search_product_trial.specs.declared.inner.Best.{Best}
 use Rattle.search_product_trial.specs.Trying.{Product, slotsFor, cheaper}
 use Rattle.search_product_trial.specs.Stages.{Keeps, Tried}
 use Rattle.search_product_trial.specs.Steps.{fitsAt, Target}
-use Rattle.search_product_trial.proofs.Firsts.{first-product}
+use Rattle.search_product_trial.proofs.Trials.{fits-solves}
+use Rattle.search_product_trial.proofs.Firsts.{first-place-is}
 use Rattle.search_product_trial.proofs.Keeping.{TriedTo}
 use Rattle.search_product_pairs.specs.Steps.{Narrows}
 
@@ -60,13 +61,9 @@ module _ (w : ℕ) (target atoms listed : List ℕ) (a : ℕ) (ok : Target w tar
 
   -- what fits solves
   fit-solves : (s : ℕ) → fitsAt w target atoms a listed s ≡ true → solves w p (getD target 0 0) (firstWord listed s) ≡ true
-  unfolding solves
   fit-solves s e =
-      eq-eqb ((p * firstWord listed s) % 2 ^ w) (getD target 0 0 % 2 ^ w)
-      (ap (λ (x : ℕ). (x * firstWord listed s) % 2 ^ w) p-is
-      ∙ mod-mul-mod (firstWord atoms a) (firstWord listed s) (2 ^ w)
-      ∙ first-product w target atoms listed a s ok e
-      ∙ sym t-is)
+      subst (λ (i : ℕ). solves w p (getD target 0 0) (getD listed i 0) ≡ true) (first-place-is s)
+      (fits-solves w target atoms listed a s ok e 0 p (omega arith) (is ∙ ap (λ (i : ℕ). getD atoms i 0 % modulus w) (sym (first-place-is a))))
 
   pub none-fits : IsNone w p (getD target 0 0) → (s : ℕ) → fitsAt w target atoms a listed s ≡ false
   none-fits no′ s = is-false (fitsAt w target atoms a listed s) (λ e. true-not-false (sym (fit-solves s e) ∙ no′ .is (firstWord listed s)))
@@ -98,10 +95,3 @@ module _ (f : Forms) (test : Product → Bool) (a : ℕ) (best r : Best) where
   slots-all n j e t =
       let m : j - 0 ≡ n = omega arith in
       subst (λ (k : ℕ). Tried f test (map (Product.ofPair a) (countUp 0 k)) best r) m t
-
-  -- none fits
-  pub none-kept : (l : List ℕ) → ((s : ℕ) → test (Product.ofPair a s) ≡ false) → best ≡ r → Tried f test (map (Product.ofPair a) l) best r
-  none-kept l fails e o k =
-      subst (λ (p : Option Product). Keeps f p r)
-      (sym (least-fails test (cheaper f) o (map (Product.ofPair a) l) (λ x i. let p = map-in (Product.ofPair a) x l i in ap test (p .is) ∙ fails (p .of))))
-      (subst (Keeps f o) e k)

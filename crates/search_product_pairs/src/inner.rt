@@ -186,7 +186,7 @@ fn try_slots(
     kept
 }
 
-// Atom a with the listed pairs, in the order in which they are tried with it. One that has too many tokens by itself is passed over.
+// Atom a with the listed pairs, in the order in which they are tried with it. One that has too many tokens by itself, or that no row can fit, is passed over.
 fn try_pairs(
     best: Best,
     atoms: &[u64],
@@ -208,6 +208,9 @@ fn try_pairs(
     ensures { λ r. ⌜ Tried (forms (now (lengths .entry)) (now (ops .entry)) (now (operands .entry)) (now (pairs .entry))) (fitting w (now (atoms .entry)) (now (listed .entry)) (now (target .entry))) (map (Product.ofPair a) (slotsFor w (firstWord (now (atoms .entry)) a) (getD (now (target .entry)) 0 0) n (now (listed .entry)))) best r ⌝ }
 {
     if !best.may_beat(lengths[a] + OTHER_TOKENS) {
+        return best;
+    }
+    if !search_product_trial::inner::may_fit(atoms, a, target, w) {
         return best;
     }
     let p = arith::reduce(atoms[ROW_WORDS * a], w);

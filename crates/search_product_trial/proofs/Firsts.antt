@@ -13,7 +13,7 @@ use Rattle.index_order.specs.Order.{firstWord}
 use Rattle.search_product_trial.specs.Steps.{fitsAt, Target}
 use Rattle.search_product_trial.proofs.Trials.{fits-lane}
 
-first-place-is : (s : ℕ) → 16 * s + 0 ≡ 16 * s
+pub first-place-is : (s : ℕ) → 16 * s + 0 ≡ 16 * s
 first-place-is s = omega arith
 
 module _ (w : ℕ) (target xs ys : List ℕ) (a b : ℕ) (ok : Target w target) where

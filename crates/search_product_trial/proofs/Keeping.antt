@@ -10,7 +10,7 @@ use lib.ListN.{length, getD}
 use Rattle.arrays.specs.Lists.{In, countUp}
 use Rattle.arrays.specs.Least.{kept, keepLeast, Ranks}
 use Rattle.arrays.proofs.Lists.{false-true, bool-cases, map-in}
-use Rattle.arrays.proofs.Least.{kept-first, kept-better, kept-dearer, least-append, least-stays, keptTo, to-none, to-skip, to-one}
+use Rattle.arrays.proofs.Least.{kept-first, kept-better, kept-dearer, least-append, least-fails, least-stays, keptTo, to-none, to-skip, to-one}
 use Rattle.row_gates.specs.declared.Gate.the-variants.{Mul}
 use Rattle.expr.specs.Formula.{isFormula}
 use Rattle.expr_cost.specs.declared.Cost.{Cost}
@@ -135,6 +135,12 @@ module _ (f : Forms) (test : Product → Bool) where
   tried-dear l best each o k =
       subst (λ (p : Option Product). Keeps f p best)
       (sym (least-stays test (cheaper f) o l (λ x i. dear-stays f x test o best k (each x i .0) (each x i .1)))) k
+
+  -- trials of which none fits
+  pub none-kept : (g : ℕ → Product) (l : List ℕ) (best : Best) → ((s : ℕ) → test (g s) ≡ false) → Tried f test (map g l) best best
+  none-kept g l best fails o k =
+      subst (λ (p : Option Product). Keeps f p best)
+      (sym (least-fails test (cheaper f) o (map g l) (λ x i. let p = map-in g x l i in ap test (p .is) ∙ fails (p .of)))) k
 
   -- place after place: what g makes of places i up to j
   module _ (g : ℕ → Product) (i : ℕ) where

@@ -1,20 +1,25 @@
 -- Laws of one trial: two rows fit exactly if each product of their words is the target's word. Assumes nothing.
-use mathlib.Core.Path.{_≡_, sym, ap, ap₂, _∙_}
+use mathlib.Core.Path.{_≡_, sym, ap, ap₂, _∙_, subst}
 use mathlib.Core.Bool.{true, false}
 use mathlib.Core.List.{List, [], _∷_, zipWith}
 use Prim.Native.Nat.{ℕ, zero, suc, _+_, _*_, _%_, _^_, _≤_, _<_}
-use native.Mathlib.Nat.{mul-comm}
+use native.Mathlib.Nat.{mul-comm, mod-lt, mod-eq-of-lt}
 use native.Mathlib.Omega.{arith}
+use borrow.Author.Tests.{eq-eqb}
 use lib.ListN.{length, getD}
+use lib.Pow.{pow-pos}
 use lib.Seq.{ext-getD}
 use Rattle.arrays.specs.Parts.{partAt}
 use Rattle.arith.specs.Word.{modulus}
 use Rattle.arrays.proofs.Lists.{is-false}
 use Rattle.arrays.proofs.Parts.{length-part, getD-part}
-use Rattle.arith.proofs.Remainders.{modulus-is}
+use Rattle.arith.proofs.Remainders.{modulus-is, mod-mul-mod}
+use Rattle.limits.proofs.Refusals.{true-not-false}
 use Rattle.row_gates.specs.Gates.{gateOf, gateRow, reducedRow}
 use Rattle.row_gates.specs.declared.Gate.the-variants.{Mul}
 use Rattle.row_gates.proofs.Rows.{length-gateRow, getD-gateRow, reduced-is, same-row-eq, same-row-of}
+use Rattle.search_equation.specs.Equation.{solves, solvable}
+use Rattle.search_equation.proofs.Solutions.{unsolvable}
 use Rattle.search_product_trial.specs.Trying.{fits}
 use Rattle.search_product_trial.specs.Steps.{fitsAt, Target}
 
@@ -62,6 +67,25 @@ module _ (w : ℕ) (target xs ys : List ℕ) (a b : ℕ) (ok : Target w target) 
   -- the product that the program computes is the word's
   pub lane-is : (j p : ℕ) → p ≡ (getD xs (16 * a + j) 0 * getD ys (16 * b + j) 0) % modulus w → p ≡ getD target j 0 → lane w xs a ys b j ≡ getD target j 0
   lane-is j p e q = ap (λ (m : ℕ). (getD xs (16 * a + j) 0 * getD ys (16 * b + j) 0) % m) (sym (modulus-is w (ok .width))) ∙ sym e ∙ q
+
+  -- what fits solves each word's equation
+  pub fits-solves : fitsAt w target xs a ys b ≡ true → (j p : ℕ) → j < 16 → p ≡ getD xs (16 * a + j) 0 % modulus w → solves w p (getD target j 0) (getD ys (16 * b + j) 0) ≡ true
+  unfolding solves
+  fits-solves e j p h is =
+      let x = getD xs (16 * a + j) 0 in
+      let y = getD ys (16 * b + j) 0 in
+      eq-eqb ((p * y) % 2 ^ w) (getD target j 0 % 2 ^ w)
+      (ap (λ (q : ℕ). (q * y) % 2 ^ w) (is ∙ ap (λ (m : ℕ). x % m) (modulus-is w (ok .width)))
+      ∙ mod-mul-mod x y (2 ^ w)
+      ∙ fits-lane e j h
+      ∙ sym (mod-eq-of-lt (ok .reduced j h)))
+
+  -- one word whose equation has no solution
+  pub fits-never : (j p : ℕ) → j < 16 → p ≡ getD xs (16 * a + j) 0 % modulus w → solvable p (getD target j 0) ≡ false → fitsAt w target xs a ys b ≡ false
+  fits-never j p h is e =
+      let below : p < 2 ^ w = subst (λ (q : ℕ). q < 2 ^ w) (sym (is ∙ ap (λ (m : ℕ). getD xs (16 * a + j) 0 % m) (modulus-is w (ok .width)))) (mod-lt (getD xs (16 * a + j) 0) (pow-pos w)) in
+      is-false (fitsAt w target xs a ys b)
+      (λ f. true-not-false (sym (fits-solves f j p h is) ∙ unsolvable w p (getD target j 0) (ok .width) below (ok .reduced j h) e (getD ys (16 * b + j) 0)))
 
   -- rows that fit in each word
   pub fits-all : 16 * a + 16 ≤ length xs → 16 * b + 16 ≤ length ys → ((j : ℕ) → j < 16 → lane w xs a ys b j ≡ getD target j 0) → fitsAt w target xs a ys b ≡ true

@@ -6,7 +6,7 @@ use row_gates::ROW_WORDS;
 use row_lent::AtomSlot;
 use row_lent::PairSlot;
 ghost use mathlib.Core.Path.{_≡_};
-ghost use mathlib.Core.Bool.{cond};
+ghost use mathlib.Core.Bool.{false, cond};
 ghost use mathlib.Core.List.{List};
 ghost use mathlib.Core.Option.{none};
 ghost use Prim.Native.Nat.{ℕ, _+_, _*_, _≤_, _<_};
@@ -46,6 +46,23 @@ pub fn fits(xs: &[u64], a: usize, ys: &[u64], b: usize, target: &[u64], w: u32) 
     let mut j: usize = 0;
     while j < ROW_WORDS {
         if arith::mod_mul(xs[x + j], ys[y + j], w) != target[j] {
+            return false;
+        }
+        j += 1;
+    }
+    true
+}
+
+// Whether a product of row a of xs can be the target: each word's equation has a solution.
+pub fn may_fit(xs: &[u64], a: usize, target: &[u64], w: u32) -> bool
+    requires { ⌜ (16 * a + 16 ≤ length (now xs)) × Target w (now target) ⌝ }
+    ensures { λ r. ⌜ (r ≡ false → (ys : List ℕ) (b : ℕ) → fitsAt w (now (target .entry)) (now (xs .entry)) a ys b ≡ false) ⌝ }
+{
+    let x = ROW_WORDS * a;
+    let mut j: usize = 0;
+    while j < ROW_WORDS {
+        let p = arith::reduce(xs[x + j], w);
+        if !search_equation::inner::is_solvable(p, target[j]) {
             return false;
         }
         j += 1;

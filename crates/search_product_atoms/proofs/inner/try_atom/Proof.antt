@@ -1,4 +1,4 @@
--- `search_product_atoms::inner::try_atom` meets its contract: the trials up to atom b are done, and b fits if it is one; or all are too dear. Assumes nothing.
+-- `search_product_atoms::inner::try_atom` meets its contract: the trials up to atom b are done, and b fits if it is one; or all are too dear, or none fits. Assumes nothing.
 use mathlib.Core.Path.{_≡_, sym, _∙_, subst}
 use mathlib.Core.Bool.{true}
 use mathlib.Core.List.{List, []}
@@ -10,7 +10,7 @@ use Rattle.search_product_forms.specs.Written.{forms}
 use Rattle.search_product_forms.proofs.Forming.{written-any}
 use Rattle.search_product_trial.specs.Trying.{Product, fitting}
 use Rattle.search_product_trial.specs.Steps.{fitsAt}
-use Rattle.search_product_trial.proofs.Keeping.{TriedTo, to-start, to-pass, to-offer, atom-dear, atoms-same}
+use Rattle.search_product_trial.proofs.Keeping.{TriedTo, none-kept, to-start, to-pass, to-offer, atom-dear, atoms-same}
 use native.Mathlib.Omega.{arith}
 use borrow.Author.Needs.{needs}
 use Rattle.search_product_atoms.proofs.inner.try_atom.Statement.{statement}
@@ -49,15 +49,26 @@ returns c listed pairs =
     (leb-false _ _ (sym (c .before .may-beat .ensures) ∙ not-true _ (c .if1 .taken))) (countUp (a .a) (a .count - a .a))
     (λ b i. omega (arith, count-in (a .a) (a .count - a .a) b i .1, s .pre .1))
 
+may-fit-requires : tie.Need-may-fit-requires Inv-loop μ-loop
+may-fit-requires c κs =
+    let s = c .before .before .before .before .before .before .before .before .before in
+    (omega (arith, s .pre .1, s .pre .2), s .pre .3)
+
+returns-2 : tie.Need-returns-2 Inv-loop μ-loop
+returns-2 c listed pairs =
+    let a = c .before .before .before .before .before .before .before .before .before .before .before .args in
+    none-kept (forms (a .lengths .now) (a .ops .now) (a .operands .now) pairs) (fitting (a .w) (a .atoms .now) listed (a .target .now)) (Product.ofAtoms (a .a)) (countUp (a .a) (a .count - a .a)) (a .best)
+    (λ b. atoms-same (a .w) (a .atoms .now) listed (a .target .now) (a .a) b ∙ c .before .may-fit .ensures (not-true _ (c .if2 .taken)) (a .atoms .now) b)
+
 next-atom-requires : tie.Need-next-atom-requires Inv-loop μ-loop
 next-atom-requires c κs =
-    let s = c .before .before .before .before .before .before .before .before .before in
+    let s = c .before .before .before .before .before .before .before .before .before .before .before in
     (s .pre .0, s .pre .1, omega (arith, s .pre .1), s .pre .2, s .pre .3)
 
 loop-holds : tie.Need-loop-holds Inv-loop μ-loop
 loop-holds c =
     let e = c .next-atom .ensures in
-    let a = c .before .before .before .before .before .before .before .before .before .before .args in (
+    let a = c .before .before .before .before .before .before .before .before .before .before .before .before .args in (
       e .from,
       e .to,
       e .stops,
@@ -71,7 +82,7 @@ loop-holds c =
 
 offer-atoms-requires : tie.Need-offer-atoms-requires Inv-loop μ-loop
 offer-atoms-requires c κs =
-    let s = c .before .before .before .before .before .before .before .before .before .before .before .before in
+    let s = c .before .before .before .before .before .before .before .before .before .before .before .before .before .before in
     (s .pre .4, s .pre .1, c .loop-test .taken)
 
 add-next-atom : tie.Need-add-next-atom Inv-loop μ-loop
@@ -79,7 +90,7 @@ add-next-atom c = search needs
 
 next-atom-requires-2 : tie.Need-next-atom-requires-2 Inv-loop μ-loop
 next-atom-requires-2 c κs =
-    let s = c .before .before .before .before .before .before .before .before .before .before .before .before .before in
+    let s = c .before .before .before .before .before .before .before .before .before .before .before .before .before .before .before in
     (s .pre .0, s .pre .1, omega (arith, c .before .loop-test .taken), s .pre .2, s .pre .3)
 
 loop-less : tie.Need-loop-less Inv-loop μ-loop
@@ -89,7 +100,7 @@ loop-again : tie.Need-loop-again Inv-loop μ-loop
 loop-again c =
     let e = c .next-atom2 .ensures in
     let l = c .before .before .before .loop in
-    let a = c .before .before .before .before .before .before .before .before .before .before .before .before .before .before .args in (
+    let a = c .before .before .before .before .before .before .before .before .before .before .before .before .before .before .before .before .args in (
       omega (arith, l .inv .0, e .from),
       e .to,
       e .stops,
@@ -102,10 +113,10 @@ loop-again c =
           (to-offer f test (Product.ofAtoms (a .a)) (a .a) (l .b) (a .best) (l .kept) (c .before .offer-atoms .result) (l .inv .0) (same (l .b) ∙ l .inv .2 (c .before .before .loop-test .taken)) (c .before .offer-atoms .ensures pairs) (l .inv .3 listed pairs)),
     )
 
-returns-2 : tie.Need-returns-2 Inv-loop μ-loop
-returns-2 c listed pairs =
+returns-3 : tie.Need-returns-3 Inv-loop μ-loop
+returns-3 c listed pairs =
     let l = c .before .loop in
-    let a = c .before .before .before .before .before .before .before .before .before .before .before .before .args in
+    let a = c .before .before .before .before .before .before .before .before .before .before .before .before .before .before .args in
     let e : l .b ≡ a .count = omega (arith, l .inv .1, c .loop-test .left) in
     subst (λ (j : ℕ). TriedTo (forms (a .lengths .now) (a .ops .now) (a .operands .now) pairs) (fitting (a .w) (a .atoms .now) listed (a .target .now)) (Product.ofAtoms (a .a)) (a .a) j (a .best) (l .kept)) e (l .inv .3 listed pairs)
 
@@ -120,6 +131,8 @@ try-atom-spec =
     add-may-beat
     may-beat-requires
     returns
+    may-fit-requires
+    returns-2
     next-atom-requires
     loop-holds
     offer-atoms-requires
@@ -127,4 +140,4 @@ try-atom-spec =
     next-atom-requires-2
     loop-less
     loop-again
-    returns-2)
+    returns-3)
