@@ -6,7 +6,8 @@ use Prim.Native.Nat.{ℕ, zero, suc, _+_, _-_, _*_, _/_, _%_, _^_, _≤_, _<_}
 use native.Mathlib.Nat.{add-comm, add-zero, mul-comm, mul-assoc, mul-mod-right, mod-lt, mod-eq-of-lt, le-of-lt, lt-of-lt-of-le, add-sub-of-le, mul-le-mul-right, zero-mul, suc-mul}
 use native.Mathlib.Decide.{ℕ-discrete}
 use native.Mathlib.Omega.{arith}
-use borrow.Author.Tests.{eq-eqb, ne-eqb, eqb-true, eqb-false, not-true}
+use borrow.Author.Tests.{eq-eqb, ne-eqb, eqb-true, eqb-false, leb-false, not-true}
+use lib.Count.{trailing-le}
 use lib.Dec.{eqb}
 use lib.Pow.{pow-pos, pow-mono, pow-add, shr-lt, split}
 use Rattle.arith.specs.Cong.{Cong}
@@ -17,7 +18,7 @@ use Rattle.search_equation.specs.declared.inner.Solution.{Solution}
 use Rattle.search_equation.specs.declared.inner.Solution.the-variants.{Class, Nothing}
 use Rattle.search_equation.specs.Solved.{IsClass, IsNone, Solved}
 use Rattle.search_equation.specs.Facts.{SolutionsExactly, NoSolution}
-use Rattle.search_equation.proofs.Zeros.{OddPart, trailing-zeros-odd, shifted, zeros-lt}
+use Rattle.search_equation.proofs.Zeros.{OddPart, trailing-zeros-odd, shifted, zeros-lt, zeros-most, zeros-of-none}
 use Rattle.search_equation.proofs.Used.{used-zero}
 
 -- two equations that follow from each other have one test
@@ -126,10 +127,12 @@ no-solution w p t wide pos small more f = none w p t (zerosOf p) wide pos small 
 pub unsolvable : (w p t : ℕ) → w ≤ 64 → p < 2 ^ w → t < 2 ^ w → solvable p t ≡ false → (f : ℕ) → solves w p t f ≡ false
 unfolding solvable
 unsolvable w p t wide below t-below e f =
-    let some = eqb-false (t % 2 ^ zerosOf p) 0 e in
+    let fewer : zerosOf t < zerosOf p = leb-false (zerosOf p) (zerosOf t) e in
+    let most : zerosOf p ≤ 64 = trailing-le 64 p in
+    let some : t ≡ 0 → ⊥ = λ q. omega (arith, fewer, most, ap zerosOf q ∙ zeros-of-none) in
     elim (ℕ-discrete p 0) [
-      | yes z ↦ zero-none w p t z t-below (used-zero p t z ∙ ap not (ne-eqb t 0 (λ q. some (ap (λ (x : ℕ). x % 2 ^ zerosOf p) q ∙ mod-eq-of-lt (pow-pos (zerosOf p)))))) f
-      | no n ↦ no-solution w p t wide (omega (arith, n)) below (omega (arith, some)) f
+      | yes z ↦ zero-none w p t z t-below (used-zero p t z ∙ ap not (ne-eqb t 0 some)) f
+      | no n ↦ none w p t (zerosOf p) wide (omega (arith, n)) below refl (zeros-most (trailing-zeros-odd 64 t (omega (arith, some)) (lt-of-lt-of-le t-below (pow-mono wide))) (zerosOf p) fewer) f
     ]
 
 -- ---- what an answer of `solve` says

@@ -1,10 +1,10 @@
 -- The trailing zeros of a number, as arithmetic: it is 2^z times an odd number. Assumes nothing.
 use mathlib.Core.Path.{_≡_, refl, sym, ap, _∙_, subst}
 use mathlib.Core.Logic.{_⊎_, inl, inr}
-use Prim.Native.Nat.{ℕ, zero, suc, _*_, _/_, _%_, _^_, _≤_, _<_}
-use native.Mathlib.Nat.{one-mul, mul-assoc, mul-comm, mul-left-comm, pow-suc, mul-div-right, le-trans, lt-irrefl, lt-of-lt-of-le, le-mul-of-pos-right}
+use Prim.Native.Nat.{ℕ, zero, suc, _+_, _-_, _*_, _/_, _%_, _^_, _≤_, _<_}
+use native.Mathlib.Nat.{add-zero, one-mul, mul-assoc, mul-comm, mul-left-comm, pow-suc, mul-div-right, le-trans, lt-irrefl, lt-of-lt-of-le, le-mul-of-pos-right}
 use native.Mathlib.Omega.{arith}
-use lib.Pow.{pow-pos, pow-mono}
+use lib.Pow.{pow-pos, pow-mono, pow-add, split}
 use lib.Count.{trailingZeros, under}
 use Rattle.limits.proofs.Refusals.{le-or-lt}
 
@@ -43,3 +43,20 @@ module _ {z n : ℕ} (part : OddPart z n) where
           let some : zero < part .o = omega (arith, part .odd) in
           let least : 2 ^ z ≤ n = subst (λ (x : ℕ). 2 ^ z ≤ x) (sym (part .split)) (le-mul-of-pos-right (2 ^ z) some) in
           absurd (lt-irrefl n (lt-of-lt-of-le h (le-trans (pow-mono l) least)))
+
+  -- a larger power of two doesn't divide it
+  pub zeros-most : (k : ℕ) → z < k → n % 2 ^ k ≡ 0 → ⊥
+  zeros-most k l e =
+      let q = n / 2 ^ k in
+      let r = 2 ^ (k - suc z) in
+      let sum : k ≡ z + suc (k - suc z) = omega arith in
+      let pow : 2 ^ k ≡ 2 ^ z * (2 * r) = ap (λ (i : ℕ). 2 ^ i) sum ∙ pow-add 2 z (suc (k - suc z)) ∙ ap (λ (x : ℕ). 2 ^ z * x) (pow-suc 2 (k - suc z) ∙ mul-comm r 2) in
+      let ring : q * (2 ^ z * (2 * r)) ≡ 2 ^ z * (2 * (q * r)) = simp mul-left-comm refl in
+      let even : n ≡ 2 ^ z * (2 * (q * r)) = sym (split n k) ∙ ap (λ (x : ℕ). q * 2 ^ k + x) e ∙ add-zero (q * 2 ^ k) ∙ ap (λ (x : ℕ). q * x) pow ∙ ring in
+      let o-even : part .o ≡ 2 * (q * r) = sym shifted ∙ ap (λ (x : ℕ). x / 2 ^ z) even ∙ mul-div-right (2 * (q * r)) (pow-pos z) in
+      omega (arith, part .odd, o-even)
+
+-- none stands below a bit of 0
+pub zeros-of-none : trailingZeros 64 0 ≡ 64
+unfolding trailingZeros
+zeros-of-none = refl

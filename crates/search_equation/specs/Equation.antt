@@ -2,7 +2,7 @@
 use mathlib.Core.Bool.{Bool, not, _&&_, cond}
 use Prim.Native.Nat.{ℕ, _*_, _%_, _^_}
 use lib.Count.{trailingZeros}
-use lib.Dec.{eqb, ltb}
+use lib.Dec.{eqb, leb, ltb}
 
 -- 01, Candidates: z the trailing zeros of p, a word of 64 bits
 abbrev pub zerosOf : ℕ → ℕ
@@ -16,6 +16,6 @@ used p t = not (cond (eqb p 0) (eqb t 0) (ltb 8 (zerosOf p) && eqb (t % 2 ^ zero
 unfoldable pub solves : ℕ → ℕ → ℕ → ℕ → Bool
 solves w p t f = eqb (p * f % 2 ^ w) (t % 2 ^ w)
 
--- 01, Candidates: 2^z divides t. Otherwise no f solves; a p of 0 has 64 zeros, and t is 0 then
+-- 01, Candidates: 2^z divides t, so t has as many trailing zeros. Otherwise no f solves
 unfoldable pub solvable : ℕ → ℕ → Bool
-solvable p t = eqb (t % 2 ^ zerosOf p) 0
+solvable p t = leb (zerosOf p) (zerosOf t)

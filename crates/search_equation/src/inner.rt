@@ -33,12 +33,11 @@ pub fn is_used(p: u64, t: u64) -> bool
     true
 }
 
-// Whether 2^z divides t: otherwise p × f = t has no solution.
+// Whether t has as many trailing zeros as p: otherwise p × f = t has no solution.
 pub fn is_solvable(p: u64, t: u64) -> bool
     ensures { λ r. ⌜ r ≡ solvable p t ⌝ }
 {
-    let z = trailing_zeros(p);
-    arith::reduce(t, z) == 0
+    trailing_zeros(p) <= trailing_zeros(t)
 }
 
 // Where the rule says "used": 2^z divides p, so t too or there is none; divided by it, p is odd and has an inverse.
