@@ -59,13 +59,13 @@ pub fn may_fit(xs: &[u64], a: usize, target: &[u64], w: u32) -> bool
     ensures { λ r. ⌜ (r ≡ false → (ys : List ℕ) (b : ℕ) → fitsAt w (now (target .entry)) (now (xs .entry)) a ys b ≡ false) ⌝ }
 {
     let x = ROW_WORDS * a;
-    let mut j: usize = 0;
-    while j < ROW_WORDS {
-        let p = arith::reduce(xs[x + j], w);
-        if !search_equation::inner::is_solvable(p, target[j]) {
+    let mut k: usize = 0;
+    while k < ROW_WORDS {
+        let p = arith::reduce(xs[x + k], w);
+        if !search_equation::inner::is_solvable(p, target[k]) {
             return false;
         }
-        j += 1;
+        k += 1;
     }
     true
 }

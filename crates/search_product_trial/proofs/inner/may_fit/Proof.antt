@@ -11,10 +11,10 @@ use Rattle.search_product_trial.proofs.inner.may_fit.Statement.{stateme
 use Rattle.search_product_trial.proofs.inner.may_fit.Tie as tie
 
 abbrev Inv-loop : tie.InvT-loop
-Inv-loop xs a target w x j₀ j = j ≤ 16
+Inv-loop xs a target w x k₀ k = k ≤ 16
 
 abbrev μ-loop : tie.MeasureT-loop
-μ-loop xs a target w x j₀ j = 16 - j
+μ-loop xs a target w x k₀ k = 16 - k
 
 mul-x : tie.Need-mul-x Inv-loop μ-loop
 mul-x c = search needs
@@ -50,10 +50,10 @@ returns c _ ys b =
     let l = c .before .before .before .before .before .before .loop in
     let s = c .before .before .before .before .before .before .before .before .before in
     let a = s .args in
-    fits-never (a .w) (a .target .now) (a .xs .now) ys (a .a) b (s .pre .1) (l .j) (r .reduce .result) (omega arith) (r .reduce .ensures) (sym (q .is-solvable .ensures) ∙ not-true _ (c .if1 .taken))
+    fits-never (a .w) (a .target .now) (a .xs .now) ys (a .a) b (s .pre .1) (l .k) (r .reduce .result) (omega arith) (r .reduce .ensures) (sym (q .is-solvable .ensures) ∙ not-true _ (c .if1 .taken))
 
-add-j : tie.Need-add-j Inv-loop μ-loop
-add-j c = search needs
+add-k : tie.Need-add-k Inv-loop μ-loop
+add-k c = search needs
 
 loop-less : tie.Need-loop-less Inv-loop μ-loop
 loop-less c = search needs
@@ -80,7 +80,7 @@ may-fit-spec =
     shared-slice-read-is-solvable
     is-solvable-requires
     returns
-    add-j
+    add-k
     loop-less
     loop-again
     returns-2)
