@@ -58,13 +58,7 @@ pub fn bad_atoms(lengths: &[u32], ops: &[u8], operands: &[u64], count: usize) ->
 fn bad_pair(gate: u32, b: u32, c: u32, count: usize) -> bool
     ensures { λ r. ⌜ r ≡ badWords count gate b c ⌝ }
 {
-    if GATE_MAX < gate {
-        return true;
-    }
-    if count <= b as usize {
-        return true;
-    }
-    count <= c as usize
+    (GATE_MAX < gate) | ((count <= b as usize) | (count <= c as usize))
 }
 
 // Whether one of the n pairs is bad.
