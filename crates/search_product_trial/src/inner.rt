@@ -6,7 +6,7 @@ use row_gates::ROW_WORDS;
 use row_lent::AtomSlot;
 use row_lent::PairSlot;
 ghost use mathlib.Core.Path.{_≡_};
-ghost use mathlib.Core.Bool.{false, cond};
+ghost use mathlib.Core.Bool.{cond};
 ghost use mathlib.Core.List.{List};
 ghost use mathlib.Core.Option.{none};
 ghost use Prim.Native.Nat.{ℕ, _+_, _*_, _≤_, _<_};
@@ -18,7 +18,7 @@ ghost use Rattle.search_product_forms.specs.Forms.{Forms};
 ghost use Rattle.search_product_forms.specs.Written.{forms, atomForms, Written, Paired};
 ghost use Rattle.search_product_trial.specs.Trying.{Product};
 ghost use Rattle.search_product_trial.specs.Stages.{Keeps, Offered, bestOf};
-ghost use Rattle.search_product_trial.specs.Steps.{fitsAt, Target};
+ghost use Rattle.search_product_trial.specs.Steps.{fitsAt, Target, MayFit};
 
 // A product that fits.
 pub enum Found {
@@ -56,7 +56,7 @@ pub fn fits(xs: &[u64], a: usize, ys: &[u64], b: usize, target: &[u64], w: u32) 
 // Whether a product of row a of xs can be the target: each word's equation has a solution.
 pub fn may_fit(xs: &[u64], a: usize, target: &[u64], w: u32) -> bool
     requires { ⌜ (16 * a + 16 ≤ length (now xs)) × Target w (now target) ⌝ }
-    ensures { λ r. ⌜ (r ≡ false → (ys : List ℕ) (b : ℕ) → fitsAt w (now (target .entry)) (now (xs .entry)) a ys b ≡ false) ⌝ }
+    ensures { λ r. ⌜ MayFit w (now (target .entry)) (now (xs .entry)) a r ⌝ }
 {
     let x = ROW_WORDS * a;
     let mut k: usize = 0;

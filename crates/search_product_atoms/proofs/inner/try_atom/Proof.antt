@@ -58,7 +58,7 @@ returns-2 : tie.Need-returns-2 Inv-loop μ-loop
 returns-2 c listed pairs =
     let a = c .before .before .before .before .before .before .before .before .before .before .before .args in
     none-kept (forms (a .lengths .now) (a .ops .now) (a .operands .now) pairs) (fitting (a .w) (a .atoms .now) listed (a .target .now)) (Product.ofAtoms (a .a)) (countUp (a .a) (a .count - a .a)) (a .best)
-    (λ b. atoms-same (a .w) (a .atoms .now) listed (a .target .now) (a .a) b ∙ c .before .may-fit .ensures (not-true _ (c .if2 .taken)) (a .atoms .now) b)
+    (λ b. atoms-same (a .w) (a .atoms .now) listed (a .target .now) (a .a) b ∙ c .before .may-fit .ensures .never (not-true _ (c .if2 .taken)) (a .atoms .now) b)
 
 next-atom-requires : tie.Need-next-atom-requires Inv-loop μ-loop
 next-atom-requires c κs =

@@ -51,7 +51,7 @@ returns-2 : tie.Need-returns-2
 returns-2 c =
     let a = c .before .before .before .before .before .before .before .before .before .before .before .before .before .before .args in
     none-kept (forms (a .lengths .now) (a .ops .now) (a .operands .now) (a .pairs .now)) (fitting (a .w) (a .atoms .now) (a .listed .now) (a .target .now)) (Product.ofPair (a .a)) (slotsFor (a .w) (firstWord (a .atoms .now) (a .a)) (getD (a .target .now) 0 0) (a .n) (a .listed .now)) (a .best)
-    (λ k. pairs-same (a .w) (a .atoms .now) (a .listed .now) (a .target .now) (a .a) k ∙ c .before .may-fit .ensures (not-true _ (c .if2 .taken)) (a .listed .now) k)
+    (λ k. pairs-same (a .w) (a .atoms .now) (a .listed .now) (a .target .now) (a .a) k ∙ c .before .may-fit .ensures .never (not-true _ (c .if2 .taken)) (a .listed .now) k)
 
 mul-reduce : tie.Need-mul-reduce
 mul-reduce c =
