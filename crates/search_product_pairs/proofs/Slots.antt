@@ -2,19 +2,17 @@
 use mathlib.Core.Path.{_≡_, sym, ap, ap₂, _∙_, subst}
 use mathlib.Core.Bool.{Bool, true, false}
 use mathlib.Core.List.{List, map}
-use mathlib.Core.Option.{Option}
-use Prim.Native.Nat.{ℕ, _-_, _*_, _%_, _^_, _≤_, _<_}
+use Prim.Native.Nat.{ℕ, _-_, _%_, _^_, _≤_, _<_}
 use native.Mathlib.Nat.{mod-lt, mod-eq-of-lt}
 use native.Mathlib.Omega.{arith}
-use borrow.Author.Tests.{eq-eqb}
 use lib.ListN.{length, getD, take}
 use lib.Pow.{pow-pos}
 use Rattle.arrays.specs.Lists.{countUp}
 use Rattle.arith.specs.Word.{modulus}
-use Rattle.arrays.proofs.Lists.{is-false, map-in}
-use Rattle.arrays.proofs.Least.{least-fails, take-places}
+use Rattle.arrays.proofs.Lists.{is-false}
+use Rattle.arrays.proofs.Least.{take-places}
 use Rattle.limits.proofs.Refusals.{true-not-false}
-use Rattle.arith.proofs.Remainders.{modulus-is, mod-mul-mod}
+use Rattle.arith.proofs.Remainders.{modulus-is}
 use Rattle.index_order.specs.Order.{firstWord, orderOf}
 use Rattle.index_order.proofs.OrderLaws.{order-exactly}
 use Rattle.search_equation.specs.Equation.{used, solves}
@@ -23,8 +21,8 @@ use Rattle.search_filter.specs.Places.{Ordered}
 use Rattle.search_filter.specs.Sweeps.{Small}
 use Rattle.search_product_forms.specs.Forms.{Forms}
 use Rattle.search_product_trial.specs.declared.inner.Best.{Best}
-use Rattle.search_product_trial.specs.Trying.{Product, slotsFor, cheaper}
-use Rattle.search_product_trial.specs.Stages.{Keeps, Tried}
+use Rattle.search_product_trial.specs.Trying.{Product, slotsFor}
+use Rattle.search_product_trial.specs.Stages.{Tried}
 use Rattle.search_product_trial.specs.Steps.{fitsAt, Target}
 use Rattle.search_product_trial.proofs.Trials.{fits-solves}
 use Rattle.search_product_trial.proofs.Firsts.{first-place-is}
