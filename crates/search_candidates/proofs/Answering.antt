@@ -20,7 +20,7 @@ use Rattle.search_filter.specs.declared.inner.Residue.{Residue}
 use Rattle.search_filter.specs.Places.{Ordered}
 use Rattle.search_filter.specs.Refusals.{shortPairs, wrongOrder}
 use Rattle.limits.specs.Limits.{tooManyPairs}
-use Rattle.search_filter.specs.Sweeps.{inClass, Small}
+use Rattle.search_filter.specs.Sweeps.{inClass}
 use Rattle.search_candidates.specs.declared.CandidatesAnswer.the-variants.{Used, NotUsed, Refused}
 use Rattle.search_candidates.specs.Candidates.{candidates, candidatesRefusal, Collected}
 use Rattle.search_candidates.specs.Steps.{Kept}
@@ -62,10 +62,7 @@ none-refused w n rows order p t list e =
 
 -- ---- the class of the solutions
 abbrev pub classOf : ℕ → ℕ → ℕ → Residue
-classOf w bits first = record { w = w; bits = bits; first = first }
-
-pub class-small : {w p t bits first : ℕ} → w ≤ 64 → IsClass w p t bits first → Small (classOf w bits first)
-class-small h is = record { width = h; within = is .within; few = is .few; below = is .below }
+classOf w zeros first = record { w = w; zeros = zeros; first = first }
 
 -- ---- what each answer says
 module _ (w n : ℕ) (rows order : List ℕ) (p t : ℕ) (old : List ℕ) where
@@ -105,11 +102,11 @@ module _ (w n : ℕ) (rows order : List ℕ) (p t : ℕ) (old : List ℕ) where
           used-collected old 0 (sym (ap length none)) (sym (ap (λ (l : List ℕ). l ++ old) none))
 
       -- those that solve are those of the class
-      pub class-collected : {bits first : ℕ} → IsClass w p t bits first → Ordered n rows order → (new : List ℕ) (k : ℕ)
-          → Kept (inClass (classOf w bits first) rows) n order old new k → Collected w n rows order p t old new (Used k)
+      pub class-collected : {zeros first : ℕ} → IsClass w p t zeros first → Ordered n rows order → (new : List ℕ) (k : ℕ)
+          → Kept (inClass (classOf w zeros first) rows) n order old new k → Collected w n rows order p t old new (Used k)
       unfolding candidates
-      class-collected {bits} {first} is ordered new k kept =
-          let same : keep (inClass (classOf w bits first) rows) (take n order) ≡ candidates w p t n rows =
-          ap (keep (inClass (classOf w bits first) rows)) (order-exactly n rows (take n order) .only-it (ordered .is))
-          ∙ sym (keep-same (λ (s : ℕ). solves w p t (firstWord rows s)) (inClass (classOf w bits first) rows) (orderOf n rows) (λ s. is .is (firstWord rows s))) in
+      class-collected {zeros} {first} is ordered new k kept =
+          let same : keep (inClass (classOf w zeros first) rows) (take n order) ≡ candidates w p t n rows =
+          ap (keep (inClass (classOf w zeros first) rows)) (order-exactly n rows (take n order) .only-it (ordered .is))
+          ∙ sym (keep-same (λ (s : ℕ). solves w p t (firstWord rows s)) (inClass (classOf w zeros first) rows) (orderOf n rows) (λ s. is .is (firstWord rows s))) in
           used-collected new k (kept .count ∙ ap length same) (kept .whole ∙ ap (λ (l : List ℕ). l ++ drop k old) same)

@@ -29,14 +29,14 @@ pub fn collect_mul_probe0_candidates(
     if !search_equation::inner::is_used(p, t) {
         return CandidatesAnswer::NotUsed;
     }
-    let search_equation::inner::Solution::Class { bits, first } = search_equation::inner::solve(
+    let search_equation::inner::Solution::Class { zeros, first } = search_equation::inner::solve(
         w,
         p,
         t,
     ) else {
         return CandidatesAnswer::Used(0);
     };
-    let class = search_filter::inner::Residue { w, bits, first };
+    let class = search_filter::inner::Residue { w, zeros, first };
     let count = inner::collect(candidates, pair_rows, order, pair_count, class);
     CandidatesAnswer::Used(count as u32)
 }

@@ -1,9 +1,10 @@
 -- All solutions of p × f = t modulo 2^w: with p = 2^z × o the equation is o × f = t / 2^z modulo 2^(w - z), and o, being odd, has an inverse.
 -- Assumes nothing.
 use mathlib.Core.Path.{_≡_, refl, sym, ap, _∙_, subst}
+use mathlib.Core.Logic.{_⊎_, inl, inr}
 use mathlib.Core.Bool.{true, false, not}
 use Prim.Native.Nat.{ℕ, zero, suc, _+_, _-_, _*_, _/_, _%_, _^_, _≤_, _<_}
-use native.Mathlib.Nat.{add-comm, add-zero, mul-comm, mul-assoc, mul-mod-right, mod-lt, mod-eq-of-lt, le-of-lt, lt-of-lt-of-le, add-sub-of-le, mul-le-mul-right, zero-mul, suc-mul}
+use native.Mathlib.Nat.{add-comm, add-zero, mul-comm, mul-assoc, mul-mod-right, mod-lt, mod-le, mod-eq-of-lt, le-of-lt, lt-of-lt-of-le, add-sub-of-le, mul-le-mul-right, zero-mul, suc-mul}
 use native.Mathlib.Decide.{ℕ-discrete}
 use native.Mathlib.Omega.{arith}
 use borrow.Author.Tests.{eq-eqb, ne-eqb, eqb-true, eqb-false, leb-false, not-true}
@@ -13,12 +14,13 @@ use lib.Pow.{pow-pos, pow-mono, pow-add, shr-lt, split}
 use Rattle.arith.specs.Cong.{Cong}
 use Rattle.arith.proofs.Congruence.{cong-trans, cong-eq, cong-multiple, cong-less, cong-scale, cong-unscale}
 use Rattle.arith.proofs.Newton.{times-inverse, of-inverse, odd-has-inverse}
-use Rattle.search_equation.specs.Equation.{zerosOf, used, solves, solvable}
+use Rattle.search_equation.specs.Equation.{zerosOf, used, solves, solvable, runningValue}
 use Rattle.search_equation.specs.declared.inner.Solution.{Solution}
 use Rattle.search_equation.specs.declared.inner.Solution.the-variants.{Class, Nothing}
 use Rattle.search_equation.specs.Solved.{IsClass, IsNone, Solved}
-use Rattle.search_equation.specs.Facts.{SolutionsExactly, NoSolution}
+use Rattle.search_equation.specs.Facts.{Least, KeysBySteps, NoSolution}
 use Rattle.search_equation.proofs.Zeros.{OddPart, trailing-zeros-odd, shifted, zeros-lt, zeros-most, zeros-of-none}
+use Rattle.limits.proofs.Refusals.{le-or-lt, true-not-false}
 use Rattle.search_equation.proofs.Used.{used-zero}
 
 -- two equations that follow from each other have one test
@@ -89,6 +91,43 @@ module _ (w p t z : ℕ) (wide : w ≤ 64) (pos : zero < p) (small : p < 2 ^ w) 
         same-test (p * f % 2 ^ w) (t % 2 ^ w) (f % 2 ^ (w - z)) (v * (t / 2 ^ z) % 2 ^ (w - z))
         (λ e. found f (record { same = e }) .same) (λ e. right f (record { same = e }) .same)
 
+-- ---- the running value
+-- it is the least and a multiple of the step
+pub running-is : (w z least i : ℕ) → runningValue w z least i ≡ least + i * 2 ^ (w - z)
+unfolding runningValue
+running-is w z least zero = let e : 0 * 2 ^ (w - z) ≡ 0 = zero-mul (2 ^ (w - z)) in omega arith
+running-is w z least (suc i) =
+    let e : suc i * 2 ^ (w - z) ≡ i * 2 ^ (w - z) + 2 ^ (w - z) = suc-mul i (2 ^ (w - z)) in
+    let ih = running-is w z least i in
+    omega arith
+
+-- it ascends
+pub running-lt : (w z least i j : ℕ) → i < j → runningValue w z least i < runningValue w z least j
+running-lt w z least i j l =
+    let more : suc i * 2 ^ (w - z) ≤ j * 2 ^ (w - z) = mul-le-mul-right (2 ^ (w - z)) l in
+    let e : suc i * 2 ^ (w - z) ≡ i * 2 ^ (w - z) + 2 ^ (w - z) = suc-mul i (2 ^ (w - z)) in
+    let pos = pow-pos (w - z) in
+    let a = running-is w z least i in
+    let b = running-is w z least j in
+    omega arith
+
+-- ---- the least solution
+-- of a class modulo 2 ^ k it is the remainder
+pub class-least : (w p t k first : ℕ) → first < 2 ^ k → ((f : ℕ) → solves w p t f ≡ eqb (f % 2 ^ k) first) → Least w p t first
+class-least w p t k first below class = record {
+  solution = class first ∙ eq-eqb (first % 2 ^ k) first (mod-eq-of-lt below);
+  none-below = λ g l. class g ∙ ne-eqb (g % 2 ^ k) first (λ e. let m = mod-le g (2 ^ k) in omega arith);
+}
+
+-- there is one least
+pub least-unique : (w p t f g : ℕ) → Least w p t f → Least w p t g → f ≡ g
+least-unique w p t f g a b = go (le-or-lt f g) (le-or-lt g f)
+  where
+    go : (f ≤ g) ⊎ (g < f) → (g ≤ f) ⊎ (f < g) → f ≡ g
+    go (inr l) h = absurd (true-not-false (sym (b .solution) ∙ a .none-below g l))
+    go (inl l) (inr h) = absurd (true-not-false (sym (a .solution) ∙ b .none-below f h))
+    go (inl l) (inl h) = omega arith
+
 -- ---- the facts
 -- number i of a class modulo 2 ^ k
 numbered-lt : (z k least i : ℕ) → least < 2 ^ k → i < 2 ^ z → least + i * 2 ^ k < 2 ^ z * 2 ^ k
@@ -97,8 +136,8 @@ numbered-lt z k least i h l =
     let e : suc i * 2 ^ k ≡ i * 2 ^ k + 2 ^ k = suc-mul i (2 ^ k) in
     omega arith
 
-pub solutions-exactly : SolutionsExactly
-solutions-exactly w p t wide pos small divides =
+pub keys-by-steps : KeysBySteps
+keys-by-steps w p t wide pos small divides =
     let z = zerosOf p in
     let k = w - z in
     let has = odd-has-inverse k (p / 2 ^ z) (odd w p t z wide pos small refl) in
@@ -108,15 +147,21 @@ solutions-exactly w p t wide pos small divides =
     let size = whole w p t z wide pos small refl in
     record {
       least = least;
-      below = below;
-      each = λ f n. (
-        subst (λ (x : ℕ). x < 2 ^ w) (sym (n .is)) (subst (λ (x : ℕ). least + n .i * 2 ^ k < x) (sym size) (numbered-lt z k least (n .i) below (n .few))),
-        class f ∙ eq-eqb (f % 2 ^ k) least (ap (λ (x : ℕ). x % 2 ^ k) (n .is) ∙ cong-multiple (2 ^ k) least (n .i) .same ∙ mod-eq-of-lt below),
-      );
-      only = λ f h s. record {
+      is-least = class-least w p t k least below class;
+      ascends = λ i j l _. running-lt w z least i j l;
+      each = λ f n.
+          let is = n .is ∙ running-is w z least (n .i) in (
+            subst (λ (x : ℕ). x < 2 ^ w) (sym is) (subst (λ (x : ℕ). least + n .i * 2 ^ k < x) (sym size) (numbered-lt z k least (n .i) below (n .few))),
+            class f ∙ eq-eqb (f % 2 ^ k) least (ap (λ (x : ℕ). x % 2 ^ k) is ∙ cong-multiple (2 ^ k) least (n .i) .same ∙ mod-eq-of-lt below),
+          );
+      every = λ f h s. record {
         i = f / 2 ^ k;
         few = shr-lt z k (subst (λ (x : ℕ). f < x) (size ∙ sym (pow-add 2 z k)) h);
-        is = sym (split f k) ∙ add-comm (f / 2 ^ k * 2 ^ k) (f % 2 ^ k) ∙ ap (λ (x : ℕ). x + f / 2 ^ k * 2 ^ k) (eqb-true (f % 2 ^ k) least (sym (class f) ∙ s));
+        is =
+            sym (split f k)
+            ∙ add-comm (f / 2 ^ k * 2 ^ k) (f % 2 ^ k)
+            ∙ ap (λ (x : ℕ). x + f / 2 ^ k * 2 ^ k) (eqb-true (f % 2 ^ k) least (sym (class f) ∙ s))
+            ∙ sym (running-is w z least (f / 2 ^ k));
       };
     }
 
@@ -137,7 +182,7 @@ unsolvable w p t wide below t-below e f =
 
 -- ---- what an answer of `solve` says
 module _ {w p t : ℕ} {r : Solution} (solved : Solved w p t r) where
-  pub solved-class : {bits first : ℕ} → r ≡ Class bits first → IsClass w p t bits first
+  pub solved-class : {zeros first : ℕ} → r ≡ Class zeros first → IsClass w p t zeros first
   solved-class e = subst (Solved w p t) e solved
 
   pub solved-none : r ≡ Nothing → IsNone w p t

@@ -1,6 +1,6 @@
 -- The equation p × f = t modulo 2^w, and the rule "used". p and t are reduced. Assumes nothing.
 use mathlib.Core.Bool.{Bool, not, _&&_, cond}
-use Prim.Native.Nat.{ℕ, _*_, _%_, _^_}
+use Prim.Native.Nat.{ℕ, zero, suc, _+_, _-_, _*_, _%_, _^_}
 use lib.Count.{trailingZeros}
 use lib.Dec.{eqb, leb, ltb}
 
@@ -19,3 +19,8 @@ solves w p t f = eqb (p * f % 2 ^ w) (t % 2 ^ w)
 -- 01, Candidates: 2^z divides t, so t has as many trailing zeros. Otherwise no f solves
 unfoldable pub solvable : ℕ → ℕ → Bool
 solvable p t = leb (zerosOf p) (zerosOf t)
+
+-- 02, 2.5: the running value starts at the least solution, and 2^(w - z) is added for each further one. Here its value number i, from 0 on
+unfoldable pub runningValue : ℕ → ℕ → ℕ → ℕ → ℕ
+runningValue w z least zero = least
+runningValue w z least (suc i) = runningValue w z least i + 2 ^ (w - z)

@@ -6,9 +6,9 @@ ghost use Rattle.search_equation.specs.Solved.{Asked, Solved};
 // More trailing zeros of p than these, and there are too many solutions to look up.
 pub const ZEROS_MAX: u32 = 8;
 
-// The solutions: the words with the remainder `first` modulo 2^bits, or none.
+// The solutions: the words with the remainder `first`, the least of them, modulo 2^(w - zeros), or none.
 pub enum Solution {
-    Class { bits: u32, first: u64 },
+    Class { zeros: u32, first: u64 },
     Nothing,
 }
 
@@ -55,5 +55,5 @@ pub fn solve(w: u32, p: u64, t: u64) -> Solution
     let bits = w - z;
     let inverse = arith::mod_inverse_odd(p >> z, bits);
     let first = arith::mod_mul(inverse, t >> z, bits);
-    Solution::Class { bits, first }
+    Solution::Class { zeros: z, first }
 }

@@ -10,13 +10,15 @@ use lib.ListN.{getD}
 use borrow.Author.Tests.{eq-eqb, ne-eqb, eqb-true}
 use Rattle.arith.specs.Word.{modulus}
 use Rattle.arith.proofs.Remainders.{modulus-is}
+use Rattle.search_equation.specs.Equation.{runningValue}
 use Rattle.search_filter.specs.declared.inner.Residue.{Residue}
 use Rattle.search_filter.specs.declared.inner.Sweep.{Sweep}
 use Rattle.search_filter.specs.Places.{wordAt, Ordered, Lower, Skips, FirstOf}
-use Rattle.search_filter.specs.Sweeps.{inClass, Small, Sweeping, Settled}
-use Rattle.search_filter.specs.Steps.{KeysPassed, KeySettled}
+use Rattle.search_filter.specs.Sweeps.{inClass, Small, IsKey, Sweeping, Settled}
+use Rattle.search_filter.specs.Steps.{Begun, KeysPassed, KeySettled}
 use Rattle.search_filter.proofs.PlaceLaws.{skips-none, skips-join}
 use Rattle.arrays.proofs.Lists.{is-false}
+use Rattle.search_filter.proofs.Running.{key-class, rest-next, next-value}
 use Rattle.search_filter.proofs.Words.{words-ascend}
 
 -- of two numbers with the same remainder the larger is a step further on
@@ -29,13 +31,6 @@ step-further S k v f a b lt =
     let e : (k / S + 1) * S ≡ k / S * S + S = add-mul (k / S) 1 S ∙ ap (λ (x : ℕ). k / S * S + x) (one-mul S) in
     omega arith
 
--- the next key by wrapping sums, where there is one
-wrapped : (key gap S top : ℕ) → gap ≡ S - 1 → 0 < S → key + S < top → ((key + gap) % top + 1) % top ≡ key + S
-wrapped key gap S top g pos room =
-    let sum : key + gap + 1 ≡ key + S = omega arith in
-    ap (λ (x : ℕ). (x + 1) % top) (mod-eq-of-lt {m = top} (let q : key + gap < top = omega arith in q))
-    ∙ ap (λ (x : ℕ). x % top) sum ∙ mod-eq-of-lt room
-
 -- a sweep that began at place a has come to place `at`
 pub record Going (c : Residue) (n : ℕ) (rows order : List ℕ) (a at key left : ℕ) : Type 0 where
   pub sweeping : Sweeping c n rows order (record { at = at; key = key; left = left })
@@ -43,19 +38,13 @@ pub record Going (c : Residue) (n : ℕ) (rows order : List ℕ) (a at key left 
   pub skips : Skips (inClass c rows) order a at
 
 module _ (c : Residue) (small : Small c) where
-  abbrev S : ℕ
-  S = 2 ^ c .bits
-
-  whole : 2 ^ c .w ≡ 2 ^ (c .w - c .bits) * S
-  whole = ap (λ (k : ℕ). 2 ^ k) (sym (sub-add-cancel (small .within))) ∙ pow-add 2 (c .w - c .bits) (c .bits)
-
-  modulus-bits : modulus (c .bits) ≡ S
-  modulus-bits = modulus-is (c .bits) (omega (arith, small .within, small .width))
+  abbrev step : ℕ
+  step = 2 ^ (c .w - c .zeros)
 
   -- ---- the test of one word
-  module _ (rows : List ℕ) (s r : ℕ) (is : r ≡ getD rows (16 * s) 0 % modulus (c .bits)) where
-    word-is : getD rows (16 * s) 0 % S ≡ r
-    word-is = ap (λ (m : ℕ). getD rows (16 * s) 0 % m) (sym modulus-bits) ∙ sym is
+  module _ (rows : List ℕ) (s r : ℕ) (is : r ≡ getD rows (16 * s) 0 % modulus (c .w - c .zeros)) where
+    word-is : getD rows (16 * s) 0 % step ≡ r
+    word-is = ap (λ (m : ℕ). getD rows (16 * s) 0 % m) (sym (modulus-is (c .w - c .zeros) (omega (arith, small .width)))) ∙ sym is
 
     pub class-yes : r ≡ c .first → inClass c rows s ≡ true
     class-yes e = eq-eqb _ _ (word-is ∙ e)
@@ -64,16 +53,22 @@ module _ (c : Residue) (small : Small c) where
     class-no n = ne-eqb _ _ (λ e. n (sym word-is ∙ e))
 
   module _ (n : ℕ) (rows order : List ℕ) where
-    of-class : (k : ℕ) → inClass c rows (getD order k 0) ≡ true → wordAt rows order k % S ≡ c .first
+    of-class : (k : ℕ) → inClass c rows (getD order k 0) ≡ true → wordAt rows order k % step ≡ c .first
     of-class k e = eqb-true _ _ e
 
     -- ---- where a sweep begins
-    pub sweeping-start : (left : ℕ) → left ≡ 2 ^ (c .w - c .bits) → Sweeping c n rows order (record { at = 0; key = c .first; left = left })
-    sweeping-start left e = record {
-      within = omega arith;
-      key-is = λ _. ap (λ (x : ℕ). c .first + x) (ap (λ (x : ℕ). x * S) e ∙ sym whole);
-      above = λ _ k l h y. subst (λ (x : ℕ). x ≤ wordAt rows order k) (of-class k y) (mod-le (wordAt rows order k) S);
-      beyond = λ z. absurd (let p = pow-pos (c .w - c .bits) in omega arith);
+    begins : {s : Sweep} → Begun c s → s .key ≡ c .first
+    unfolding runningValue
+    begins {s} b =
+        let none : 2 ^ c .zeros - s .left ≡ 0 = omega (arith, b .all-left) in
+        b .key-is .is ∙ ap (runningValue (c .w) (c .zeros) (c .first)) none
+
+    pub sweeping-start : (s : Sweep) → Begun c s → Sweeping c n rows order s
+    sweeping-start s b = record {
+      within = omega (arith, b .at-first);
+      key-is = λ _. b .key-is;
+      above = λ _ k l h y. subst (λ (x : ℕ). x ≤ wordAt rows order k) (of-class k y ∙ sym (begins b)) (mod-le (wordAt rows order k) step);
+      beyond = λ z. absurd (omega (arith, b .key-is .some));
     }
 
     -- a later place
@@ -111,12 +106,8 @@ module _ (c : Residue) (small : Small c) where
           }
 
       module _ (some : 0 < left) where
-        key-class : key % S ≡ c .first
-        key-class =
-            sym (add-mul-mod-self-right key left S)
-            ∙ ap (λ (x : ℕ). x % S) (g .sweeping .key-is some ∙ ap (λ (x : ℕ). c .first + x) whole)
-            ∙ add-mul-mod-self-right (c .first) (2 ^ (c .w - c .bits)) S
-            ∙ mod-eq-of-lt (small .below)
+        is-key : IsKey c key left
+        is-key = g .sweeping .key-is some
 
         -- up to the key nothing is of the class
         pub going-lower : (r : ℕ) → Lower n rows order at key r → Going c n rows order a r key left
@@ -158,52 +149,51 @@ module _ (c : Residue) (small : Small c) where
           sweeping = g .sweeping;
           from = g .from;
           skips = g .skips;
-          stops = λ _. eq-eqb _ _ (ap (λ (x : ℕ). x % S) e ∙ key-class);
+          stops = λ _. eq-eqb _ _ (ap (λ (x : ℕ). x % step) e ∙ key-class c small key left is-key);
         }
 
         -- the word there is beyond the key: one key less
         module _ (o : Ordered n rows order) (h : at < n) (le : key ≤ wordAt rows order at) (ne : wordAt rows order at ≡ key → ⊥) where
-          further : (k : ℕ) → at ≤ k → k < n → inClass c rows (getD order k 0) ≡ true → key + S ≤ wordAt rows order k
+          further : (k : ℕ) → at ≤ k → k < n → inClass c rows (getD order k 0) ≡ true → key + step ≤ wordAt rows order k
           further k l b y =
               let up = words-ascend n rows order o .up at k l b in
               let lt : key < wordAt rows order k = omega arith in
-              step-further S key (wordAt rows order k) (c .first) key-class (of-class k y) lt
+              step-further step key (wordAt rows order k) (c .first) (key-class c small key left is-key) (of-class k y) lt
 
-          left-is : left * S ≡ (left - 1) * S + S
-          left-is =
-              let e : left ≡ left - 1 + 1 = omega arith in
-              ap (λ (x : ℕ). x * S) e ∙ add-mul (left - 1) 1 S ∙ ap (λ (x : ℕ). (left - 1) * S + x) (one-mul S)
-
-          next-is : key + S + (left - 1) * S ≡ c .first + 2 ^ c .w
-          next-is = let p = g .sweeping .key-is some in let q = left-is in omega arith
-
-          room : 0 < left - 1 → key + S < 2 ^ 64
-          room p =
-              let top : 2 ^ c .w ≤ 2 ^ 64 = pow-mono (small .width) in
-              let one : 1 * S ≤ (left - 1) * S = mul-le-mul-right S (let q : 1 ≤ left - 1 = omega arith in q) in
-              roomy key S ((left - 1) * S) (c .first) (2 ^ c .w) (2 ^ 64) next-is (subst (λ (x : ℕ). x ≤ (left - 1) * S) (one-mul S) one) (small .below) top
+          -- it was the last
+          pub going-last : left ≡ 1 → KeySettled c n rows order a (record { at = at; key = key; left = 0 })
+          going-last e = record {
+            sweeping = record {
+              within = g .sweeping .within;
+              key-is = λ p. absurd (omega arith);
+              above = λ p. absurd (omega arith);
+              beyond = λ _ k l b y. passed (wordAt rows order k) (further k l b y);
+            };
+            from = g .from;
+            skips = g .skips;
+            stops = λ p. absurd (omega arith);
+          }
             where
-              roomy : (k s x f t top : ℕ) → k + s + x ≡ f + t → s ≤ x → f < s → t ≤ top → k + s < top
-              roomy k s x f t top a b d e = omega arith
+              passed : (v : ℕ) → key + step ≤ v → 2 ^ c .w ≤ v
+              passed v h =
+                  let none : (left - 1) * step ≡ 0 = ap (λ (x : ℕ). (x - 1) * step) e ∙ zero-mul step in
+                  let rest = rest-next c small key left is-key in
+                  omega arith
 
-          pub going-next : (key′ : ℕ) → key′ ≡ ((key + (modulus (c .bits) - 1)) % 2 ^ 64 + 1) % 2 ^ 64 → Going c n rows order a at key′ (left - 1)
-          going-next key′ ke =
-              let next : 0 < left - 1 → key′ ≡ key + S = λ p. ke ∙ wrapped key (modulus (c .bits) - 1) S (2 ^ 64) (ap (λ (x : ℕ). x - 1) modulus-bits) (pow-pos (c .bits)) (room p) in
+          -- or there is a next
+          pub going-next : 1 < left → (r : ℕ) → IsKey c r (left - 1) → Going c n rows order a at r (left - 1)
+          going-next more r is =
+              let next : key + step ≡ r = next-value c small key left is-key more ∙ sym (is .is) in
               record {
                 sweeping = record {
                   within = g .sweeping .within;
-                  key-is = λ p. ap (λ (x : ℕ). x + (left - 1) * S) (next p) ∙ next-is;
-                  above = λ p k l b y. subst (λ (x : ℕ). x ≤ wordAt rows order k) (sym (next p)) (further k l b y);
-                  beyond = λ z k l b y. beyond-is key S (left - 1) (c .first) (2 ^ c .w) (wordAt rows order k) next-is z (further k l b y);
+                  key-is = λ _. is;
+                  above = λ _ k l b y. subst (λ (x : ℕ). x ≤ wordAt rows order k) next (further k l b y);
+                  beyond = λ z. absurd (omega arith);
                 };
                 from = g .from;
                 skips = g .skips;
               }
-            where
-              beyond-is : (k s d f t v : ℕ) → k + s + d * S ≡ f + t → d ≡ 0 → k + s ≤ v → t ≤ v
-              beyond-is k s d f t v e z b =
-                  let q : d * S ≡ 0 = ap (λ (x : ℕ). x * S) z ∙ zero-mul S in
-                  omega arith
 
     -- ---- the tail
     pub keys-passed : (a : ℕ) (s : Sweep) → s .left ≤ 0 → KeySettled c n rows order a s → KeysPassed c n rows order (s .at)

@@ -2,4 +2,5 @@
 pub mod PlaceLaws
 pub mod Halving
 pub mod Words
+pub mod Running
 pub mod Keys

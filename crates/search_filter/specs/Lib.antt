@@ -2,4 +2,5 @@
 pub mod Places
 pub mod Sweeps
 pub mod Steps
+pub mod Facts
 pub mod Refusals

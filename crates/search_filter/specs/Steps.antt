@@ -7,7 +7,7 @@ use lib.ListN.{getD}
 use Rattle.search_filter.specs.declared.inner.Residue.{Residue}
 use Rattle.search_filter.specs.declared.inner.Sweep.{Sweep}
 use Rattle.search_filter.specs.Places.{wordAt, sampleStep, Skips}
-use Rattle.search_filter.specs.Sweeps.{inClass, Sweeping}
+use Rattle.search_filter.specs.Sweeps.{inClass, IsKey, Sweeping}
 
 -- f ascends up to n
 pub record Ascends (f : ℕ → ℕ) (n : ℕ) : Type 0 where
@@ -17,6 +17,12 @@ pub record Ascends (f : ℕ → ℕ) (n : ℕ) : Type 0 where
 pub record AfterSamples (lo u r : ℕ) : Type 0 where
   pub from : lo ≤ r
   pub to : lo < r → r + sampleStep ≤ sampleStep * u + 1
+
+-- a sweep that hasn't begun to look: all 2^z keys are left
+pub record Begun (c : Residue) (s : Sweep) : Type 0 where
+  pub at-first : s .at ≡ 0
+  pub all-left : s .left ≡ 2 ^ c .zeros
+  pub key-is : IsKey c (s .key) (s .left)
 
 -- all words from place `to` on are key or more
 pub record Window (n : ℕ) (rows order : List ℕ) (from to key : ℕ) : Type 0 where

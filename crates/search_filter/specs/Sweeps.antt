@@ -2,29 +2,36 @@
 use mathlib.Core.Path.{_≡_}
 use mathlib.Core.Bool.{Bool, true}
 use mathlib.Core.List.{List}
-use Prim.Native.Nat.{ℕ, _+_, _*_, _%_, _^_, _≤_, _<_}
+use Prim.Native.Nat.{ℕ, _-_, _%_, _^_, _≤_, _<_}
 use lib.Dec.{eqb}
 use lib.ListN.{getD}
+use Rattle.search_equation.specs.Equation.{runningValue}
 use Rattle.index_order.specs.Order.{firstWord}
 use Rattle.search_filter.specs.declared.inner.Residue.{Residue}
 use Rattle.search_filter.specs.declared.inner.Sweep.{Sweep}
 use Rattle.search_filter.specs.Places.{wordAt, Skips}
 
--- the first word of slot s leaves `first` modulo 2^bits
+-- the first word of slot s leaves `first` modulo 2^(w - zeros)
 abbrev pub inClass : Residue → List ℕ → ℕ → Bool
-inClass c rows s = eqb (firstWord rows s % 2 ^ c .bits) (c .first)
+inClass c rows s = eqb (firstWord rows s % 2 ^ (c .w - c .zeros)) (c .first)
 
 -- at most 2^8 of the class are below 2^w
 pub record Small (c : Residue) : Type 0 where
   pub width : c .w ≤ 64
-  pub within : c .bits ≤ c .w
-  pub few : c .w ≤ c .bits + 8
-  pub below : c .first < 2 ^ c .bits
+  pub within : c .zeros ≤ c .w
+  pub few : c .zeros ≤ 8
+  pub below : c .first < 2 ^ (c .w - c .zeros)
 
--- where a sweep stands. A key is a word of the class below 2^w: from the sweep's place on, no word of the class is below its key; with no key left, none is below 2^w
+-- the keys are the first 2^z values of the running value from `first` on: with so many left, it included, `key` is the next
+pub record IsKey (c : Residue) (key left : ℕ) : Type 0 where
+  pub some : 0 < left
+  pub most : left ≤ 2 ^ c .zeros
+  pub is : key ≡ runningValue (c .w) (c .zeros) (c .first) (2 ^ c .zeros - left)
+
+-- where a sweep stands: from its place on, no word of the class is below its key; with no key left, none is below 2^w
 pub record Sweeping (c : Residue) (n : ℕ) (rows order : List ℕ) (s : Sweep) : Type 0 where
   pub within : s .at ≤ n
-  pub key-is : 0 < s .left → s .key + s .left * 2 ^ c .bits ≡ c .first + 2 ^ c .w
+  pub key-is : 0 < s .left → IsKey c (s .key) (s .left)
   pub above : 0 < s .left → (k : ℕ) → s .at ≤ k → k < n → inClass c rows (getD order k 0) ≡ true → s .key ≤ wordAt rows order k
   pub beyond : s .left ≡ 0 → (k : ℕ) → s .at ≤ k → k < n → inClass c rows (getD order k 0) ≡ true → 2 ^ c .w ≤ wordAt rows order k
 

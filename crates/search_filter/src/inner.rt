@@ -1,20 +1,19 @@
 // What the candidates and the search call with an order list that they have tested.
 ghost use mathlib.Core.Path.{_≡_};
-ghost use Prim.Native.Nat.{ℕ, _+_, _-_, _%_, _^_, _≤_, _<_};
+ghost use Prim.Native.Nat.{ℕ, _-_, _≤_, _<_};
 ghost use lib.ListN.{length, getD};
-ghost use Rattle.arith.specs.Word.{modulus};
 ghost use Rattle.search_filter.specs.Places.{wordAt, Ordered, Sampled, Reached, Lower, FirstOf};
-ghost use Rattle.search_filter.specs.Sweeps.{inClass, Small, Sweeping, Settled};
-ghost use Rattle.search_filter.specs.Steps.{Ascends, AfterSamples, Window, KeysPassed, KeySettled};
+ghost use Rattle.search_filter.specs.Sweeps.{inClass, Small, IsKey, Sweeping, Settled};
+ghost use Rattle.search_filter.specs.Steps.{Ascends, AfterSamples, Begun, Window, KeysPassed, KeySettled};
 
-// The words that leave `first` modulo 2^bits; those below 2^w are keys.
+// The words that leave `first` modulo 2^(w - zeros); those below 2^w are keys, 2^zeros of them.
 pub struct Residue {
     pub w: u32,
-    pub bits: u32,
+    pub zeros: u32,
     pub first: u64,
 }
 
-// The place that a sweep has come to, the key that it looks for, and how many keys are left with it.
+// The place that a sweep has come to, its running value, which is the key that it looks for, and how many keys are left with it.
 pub struct Sweep {
     pub at: usize,
     pub key: u64,
@@ -144,11 +143,26 @@ pub fn lower(
     lower_between(rows, order, n, from, n, key)
 }
 
-// The key 2^bits further on, in two steps: at 64 bits 2^bits is no u64.
-fn next_key(key: u64, bits: u32) -> u64
-    ensures { λ r. ⌜ r ≡ ((key + (modulus bits - 1)) % 2 ^ 64 + 1) % 2 ^ 64 ⌝ }
+// The running value begins at the least key.
+fn first_key(class: Residue) -> Sweep
+    requires { ⌜ Small class ⌝ }
+    ensures { λ r. ⌜ Begun class r ⌝ }
 {
-    std::num::wrapping_add_u64(std::num::wrapping_add_u64(key, arith::bitmask(bits)), 1)
+    let left: u64 = 1 << class.zeros;
+    Sweep {
+        at: 0,
+        key: class.first,
+        left: left,
+    }
+}
+
+// The next key is 2^(w - zeros) more. After the last none is asked for: with one key alone the step may be 2^64.
+fn next_key(class: Residue, key: u64, left: u64) -> u64
+    requires { ⌜ Small class × IsKey class key left × (1 < left) ⌝ }
+    ensures { λ r. ⌜ IsKey class r (left - 1) ⌝ }
+{
+    let bits = class.w - class.zeros;
+    key + (1 << bits)
 }
 
 // From the sweep's place on, the first place whose first word is one of the keys left.
@@ -179,7 +193,14 @@ fn settle_keys(
         if word_at(rows, order, n, at) == key {
             return Sweep { at, key, left };
         }
-        key = next_key(key, class.bits);
+        if left == 1 {
+            return Sweep {
+                at: at,
+                key: key,
+                left: 0,
+            };
+        }
+        key = next_key(class, key, left);
         left -= 1;
     }
     Sweep {
@@ -194,9 +215,10 @@ fn scan_class(rows: &[u64], order: &[u32], n: usize, class: Residue, at: usize) 
     requires { ⌜ Ordered n (now rows) (now order) × Small class × (at ≤ n) ⌝ }
     ensures { λ r. ⌜ FirstOf (inClass class (now (rows .entry))) n (now (order .entry)) at r ⌝ }
 {
+    let bits = class.w - class.zeros;
     let mut i = at;
     while i < n {
-        if arith::reduce(word_at(rows, order, n, i), class.bits) == class.first {
+        if arith::reduce(word_at(rows, order, n, i), bits) == class.first {
             return i;
         }
         i += 1;
@@ -269,20 +291,7 @@ pub fn first_place(
     requires { ⌜ Ordered n (now rows) (now order) × Sampled n (now rows) (now order) (now samples) m × Small class ⌝ }
     ensures { λ r. ⌜ Settled class n (now (rows .entry)) (now (order .entry)) 0 r ⌝ }
 {
-    let left: u64 = 1 << (class.w - class.bits);
-    settle(
-        rows,
-        order,
-        n,
-        samples,
-        m,
-        class,
-        Sweep {
-            at: 0,
-            key: class.first,
-            left: left,
-        },
-    )
+    settle(rows, order, n, samples, m, class, first_key(class))
 }
 
 // The next place of the class from `from` on, which is after the one that the sweep has come to.

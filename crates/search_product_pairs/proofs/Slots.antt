@@ -18,7 +18,6 @@ use Rattle.index_order.proofs.OrderLaws.{order-exactly}
 use Rattle.search_equation.specs.Equation.{used, solves}
 use Rattle.search_equation.specs.Solved.{Asked, IsClass, IsNone}
 use Rattle.search_filter.specs.Places.{Ordered}
-use Rattle.search_filter.specs.Sweeps.{Small}
 use Rattle.search_product_forms.specs.Forms.{Forms}
 use Rattle.search_product_trial.specs.declared.inner.Best.{Best}
 use Rattle.search_product_trial.specs.Trying.{Product, slotsFor}
@@ -66,12 +65,8 @@ module _ (w : ℕ) (target atoms listed : List ℕ) (a : ℕ) (ok : Target w tar
   pub none-fits : IsNone w p (getD target 0 0) → (s : ℕ) → fitsAt w target atoms a listed s ≡ false
   none-fits no′ s = is-false (fitsAt w target atoms a listed s) (λ e. true-not-false (sym (fit-solves s e) ∙ no′ .is (firstWord listed s)))
 
-  module _ (bits first : ℕ) (class : IsClass w p (getD target 0 0) bits first) where
-    pub narrows : Narrows w target atoms a listed record { w = w; bits = bits; first = first }
-    narrows = record { is = λ s e. sym (class .is (firstWord listed s)) ∙ fit-solves s e }
-
-    pub small : Small record { w = w; bits = bits; first = first }
-    small = record { width = ok .width; within = class .within; few = class .few; below = class .below }
+  pub narrows : (zeros first : ℕ) → IsClass w p (getD target 0 0) zeros first → Narrows w target atoms a listed record { w = w; zeros = zeros; first = first }
+  narrows zeros first class = record { is = λ s e. sym (class .is (firstWord listed s)) ∙ fit-solves s e }
 
 -- the lent list is the order list
 pub listed-is : (n : ℕ) (rows order : List ℕ) → Ordered n rows order → take n order ≡ orderOf n rows

@@ -218,8 +218,8 @@ fn try_pairs(
     if search_equation::inner::is_used(p, t) {
         let solution = search_equation::inner::solve(w, p, t);
         match solution {
-            Solution::Class { bits, first } => {
-                let class = Residue { w, bits, first };
+            Solution::Class { zeros, first } => {
+                let class = Residue { w, zeros, first };
                 return try_class(
                     best,
                     atoms,

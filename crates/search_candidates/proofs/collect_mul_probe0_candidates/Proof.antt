@@ -4,7 +4,8 @@ use native.Mathlib.Omega.{arith}
 use borrow.Author.Needs.{needs}
 use borrow.Author.Tests.{not-true, not-false}
 use Rattle.search_equation.proofs.Solutions.{solved-class, solved-none}
-use Rattle.search_candidates.proofs.Answering.{zero-of, none-refused, class-small, refused-collected, unused-collected, none-collected, class-collected}
+use Rattle.search_filter.proofs.Running.{class-small}
+use Rattle.search_candidates.proofs.Answering.{zero-of, none-refused, refused-collected, unused-collected, none-collected, class-collected}
 use Rattle.search_candidates.proofs.collect_mul_probe0_candidates.Statement.{statement}
 use Rattle.search_candidates.proofs.collect_mul_probe0_candidates.Tie as tie
 
@@ -43,8 +44,8 @@ solve-requires c κs =
       is-used = sym (c .before .is-used .ensures) ∙ not-false _ (c .if2 .left);
     }
 
-enum-known-bits : tie.Need-enum-known-bits
-enum-known-bits c = search needs
+enum-known-zeros : tie.Need-enum-known-zeros
+enum-known-zeros c = search needs
 
 enum-told : tie.Need-enum-told
 enum-told c = search needs
@@ -64,7 +65,7 @@ collect-requires c κs =
     let a = c .before .before .before .before .before .before .before .before .before .before .before .before .before .args in
     let ok = zero-of (a .w) (a .pair-count) (a .pair-rows .now) (a .order .now) (a .p) (a .t) (a .candidates .now) (c .before .before .before .before .before .before .before .before .candidates-refusal .result) (c .before .before .before .before .before .before .before .before .candidates-refusal .ensures) (c .before .before .before .before .before .before .before .if1 .left) in
     let passed = none-refused (a .w) (a .pair-count) (a .pair-rows .now) (a .order .now) (a .p) (a .t) (a .candidates .now) ok in
-    let class = solved-class (c .before .before .before .before .solve .ensures) (c .before .before .bits .given .1) in
+    let class = solved-class (c .before .before .before .before .solve .ensures) (c .before .before .zeros .given .1) in
     (passed .ordered, class-small (passed .width) class, passed .room)
 
 cast-t20 : tie.Need-cast-t20
@@ -83,7 +84,7 @@ returns-4 c =
     let ok = zero-of (a .w) (a .pair-count) (a .pair-rows .now) (a .order .now) (a .p) (a .t) (a .candidates .now) (c .before .before .before .before .before .before .before .before .before .before .before .candidates-refusal .result) (c .before .before .before .before .before .before .before .before .before .before .before .candidates-refusal .ensures) (c .before .before .before .before .before .before .before .before .before .before .if1 .left) in
     let is-used = sym (c .before .before .before .before .before .before .before .before .before .is-used .ensures) ∙ not-false _ (c .before .before .before .before .before .before .before .before .if2 .left) in
     let passed = none-refused (a .w) (a .pair-count) (a .pair-rows .now) (a .order .now) (a .p) (a .t) (a .candidates .now) ok in
-    let class = solved-class (c .before .before .before .before .before .before .before .solve .ensures) (c .before .before .before .before .before .bits .given .1) in
+    let class = solved-class (c .before .before .before .before .before .before .before .solve .ensures) (c .before .before .before .before .before .zeros .given .1) in
     class-collected (a .w) (a .pair-count) (a .pair-rows .now) (a .order .now) (a .p) (a .t) (a .candidates .now) ok is-used class (passed .ordered) _ (c .before .before .collect .result) (c .before .before .collect .ensures)
 
 pub collect-mul-probe0-candidates-spec : {M : Type 1} → statement M
@@ -97,7 +98,7 @@ collect-mul-probe0-candidates-spec =
     same-length-2
     returns-2
     solve-requires
-    enum-known-bits
+    enum-known-zeros
     enum-told
     same-length-3
     returns-3

@@ -8,8 +8,9 @@ use lib.Dec.{eqb}
 use lib.Pow.{pow-pos}
 use Rattle.arith.specs.Cong.{Cong}
 use Rattle.arith.proofs.Remainders.{modulus-is}
+use Rattle.search_equation.specs.Equation.{solves}
 use Rattle.search_equation.proofs.Used.{few-zeros}
-use Rattle.search_equation.proofs.Solutions.{zero-none, fewer, odd, none, one-class}
+use Rattle.search_equation.proofs.Solutions.{zero-none, fewer, odd, none, one-class, class-least}
 use Rattle.search_equation.proofs.inner.solve.Statement.{statement}
 use Rattle.search_equation.proofs.inner.solve.Tie as tie
 
@@ -87,11 +88,13 @@ returns-3 c =
     let o = odd (a .w) (a .p) (a .t) z (s .pre .width) (pos zeros) (s .pre .p-below) is in
     let inverse = subst (λ (n : ℕ). Cong n (a .p / 2 ^ z * v) 1) m (inv .mod-inverse-odd .ensures .inverse o) in
     let most = few-zeros (a .p) (a .t) (zeros .before .if1 .left) (s .pre .is-used) (ap (λ (n : ℕ). a .t % 2 ^ n) (sym is) ∙ d) in
+    let class : (f : ℕ) → solves (a .w) (a .p) (a .t) f ≡ eqb (f % 2 ^ bits) (c .mod-mul .result) = λ f. one-class (a .w) (a .p) (a .t) z (s .pre .width) (pos zeros) (s .pre .p-below) is v d inverse f ∙ ap (λ (x : ℕ). eqb (f % 2 ^ bits) x) (sym first) in
     record {
-      is = λ f. one-class (a .w) (a .p) (a .t) z (s .pre .width) (pos zeros) (s .pre .p-below) is v d inverse f ∙ ap (λ (x : ℕ). eqb (f % 2 ^ bits) x) (sym first);
-      below = subst (λ (n : ℕ). n < 2 ^ bits) (sym first) (mod-lt (v * (a .t / 2 ^ z)) (pow-pos bits));
-      within = sub-le (a .w) z;
+      zeros-is = is;
+      within = le-of-lt (few zeros);
       few = omega (arith, most, is);
+      least = class-least (a .w) (a .p) (a .t) bits (c .mod-mul .result) (subst (λ (n : ℕ). n < 2 ^ bits) (sym first) (mod-lt (v * (a .t / 2 ^ z)) (pow-pos bits))) class;
+      is = class;
     }
 
 pub solve-spec : {M : Type 1} → statement M

@@ -1,28 +1,25 @@
--- `search_filter::inner::first_place` meets its contract: the first of 2^(w - bits) keys is `first`. Assumes nothing.
-use native.Mathlib.Omega.{arith}
+-- `search_filter::inner::first_place` meets its contract: the sweep begins at place 0. Assumes nothing.
+use mathlib.Core.Path.{subst}
+use Prim.Native.Nat.{ℕ}
 use borrow.Author.Needs.{needs}
-use Rattle.arith.proofs.Remainders.{shl-one}
+use Rattle.search_filter.specs.Sweeps.{Settled}
 use Rattle.search_filter.proofs.Keys.{sweeping-start}
 use Rattle.search_filter.proofs.inner.first_place.Statement.{statement}
 use Rattle.search_filter.proofs.inner.first_place.Tie as tie
 
-sub-left : tie.Need-sub-left
-sub-left c = search needs
-
-cast-left : tie.Need-cast-left
-cast-left c = search needs
-
-shl-left : tie.Need-shl-left
-shl-left c = search needs
+first-key-requires : tie.Need-first-key-requires
+first-key-requires c κs = search needs
 
 settle-requires : tie.Need-settle-requires
 settle-requires c κs =
     let s = c .before .before .before .before in
     let a = s .args in
-    (s .pre .0, s .pre .1, s .pre .2, sweeping-start (a .class) (s .pre .2) (a .n) (a .rows .now) (a .order .now) _ (shl-one (omega (arith, s .pre .2 .few))))
+    (s .pre .0, s .pre .1, s .pre .2, sweeping-start (a .class) (s .pre .2) (a .n) (a .rows .now) (a .order .now) (c .first-key .result) (c .first-key .ensures))
 
 returns : tie.Need-returns
-returns c = search needs
+returns c =
+    let a = c .before .before .before .before .before .args in
+    subst (λ (k : ℕ). Settled (a .class) (a .n) (a .rows .now) (a .order .now) k (c .settle .result)) (c .before .first-key .ensures .at-first) (c .settle .ensures)
 
 pub first-place-spec : {M : Type 1} → statement M
-first-place-spec = tie.close (tie.spec sub-left cast-left shl-left settle-requires returns)
+first-place-spec = tie.close (tie.spec first-key-requires settle-requires returns)

@@ -13,19 +13,22 @@ use Rattle.search_filter.proofs.inner.scan_class.Statement.{statement}
 use Rattle.search_filter.proofs.inner.scan_class.Tie as tie
 
 abbrev Inv-loop : tie.InvT-loop
-Inv-loop rows order n class at i₀ i = (at ≤ i) × (i ≤ n) × Skips (inClass class rows) order at i
+Inv-loop rows order n class at bits i₀ i = (at ≤ i) × (i ≤ n) × Skips (inClass class rows) order at i
 
 abbrev μ-loop : tie.MeasureT-loop
-μ-loop rows order n class at i₀ i = n - i
+μ-loop rows order n class at bits i₀ i = n - i
+
+sub-bits : tie.Need-sub-bits Inv-loop μ-loop
+sub-bits c = search needs
 
 loop-holds : tie.Need-loop-holds Inv-loop μ-loop
 loop-holds c =
-    let s = c .before .before in
+    let s = c .before .before .before in
     let a = s .args in
     (omega arith, s .pre .2, skips-none (inClass (a .class) (a .rows .now)) (a .order .now) (a .at))
 
 word-at-requires : tie.Need-word-at-requires Inv-loop μ-loop
-word-at-requires c κs = (c .before .before .before .before .pre .0, c .loop-test .taken)
+word-at-requires c κs = (c .before .before .before .before .before .pre .0, c .loop-test .taken)
 
 reduce-requires : tie.Need-reduce-requires Inv-loop μ-loop
 reduce-requires c κs = search needs
@@ -35,9 +38,9 @@ returns c =
     let r = c .before .before in
     let w = r .before in
     let l = w .before .before .loop in
-    let s = w .before .before .before .before .before in
+    let s = w .before .before .before .before .before .before in
     let a = s .args in
-    let is = r .reduce .ensures ∙ ap (λ (x : ℕ). x % modulus (a .class .bits)) (w .word-at .ensures) in
+    let is = r .reduce .ensures ∙ ap (λ (x : ℕ). x % modulus (a .class .w - a .class .zeros)) (w .word-at .ensures) in
     record {
       from = l .inv .0;
       to = l .inv .1;
@@ -56,9 +59,9 @@ loop-again c =
     let r = c .before .before in
     let w = r .before in
     let l = w .before .before .loop in
-    let s = w .before .before .before .before .before in
+    let s = w .before .before .before .before .before .before in
     let a = s .args in
-    let is = r .reduce .ensures ∙ ap (λ (x : ℕ). x % modulus (a .class .bits)) (w .word-at .ensures) in (
+    let is = r .reduce .ensures ∙ ap (λ (x : ℕ). x % modulus (a .class .w - a .class .zeros)) (w .word-at .ensures) in (
       omega (arith, l .inv .0),
       omega (arith, w .before .loop-test .taken),
       skips-more (inClass (a .class) (a .rows .now)) (a .order .now) (a .at) (l .i) (l .inv .2) (class-no (a .class) (s .pre .1) (a .rows .now) (getD (a .order .now) (l .i) 0) (r .reduce .result) is (c .if1 .left)),
@@ -75,6 +78,7 @@ scan-class-spec =
     (tie.spec
     Inv-loop
     μ-loop
+    sub-bits
     loop-holds
     word-at-requires
     reduce-requires

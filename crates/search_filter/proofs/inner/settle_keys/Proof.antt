@@ -3,7 +3,7 @@ use mathlib.Core.Path.{sym, _∙_}
 use Prim.Native.Nat.{_<_}
 use borrow.Author.Needs.{needs}
 use native.Mathlib.Omega.{arith}
-use Rattle.search_filter.proofs.Keys.{Going, going-start, going-lower, going-end, going-hit, going-next, going-done}
+use Rattle.search_filter.proofs.Keys.{Going, going-start, going-lower, going-end, going-hit, going-last, going-next, going-done}
 use Rattle.search_filter.proofs.inner.settle_keys.Statement.{statement}
 use Rattle.search_filter.proofs.inner.settle_keys.Tie as tie
 
@@ -51,8 +51,24 @@ returns-2 c =
     let here = going-lower (a .class) (s .pre .2) (a .n) (a .rows .now) (a .order .now) (a .s .at) (l .at) (l .key) (l .left) (l .inv) (test .loop-test .taken) r (low .lower .ensures) in
     going-hit (a .class) (s .pre .2) (a .n) (a .rows .now) (a .order .now) (a .s .at) r (l .key) (l .left) here (test .loop-test .taken) (sym (c .before .word-at .ensures) ∙ c .if2 .taken)
 
+returns-3 : tie.Need-returns-3 Inv-loop μ-loop
+returns-3 c =
+    let low = c .before .before .before .before in
+    let test = low .before in
+    let l = test .before .loop in
+    let s = test .before .before .before .before .before in
+    let a = s .args in
+    let r = low .lower .result in
+    let here = going-lower (a .class) (s .pre .2) (a .n) (a .rows .now) (a .order .now) (a .s .at) (l .at) (l .key) (l .left) (l .inv) (test .loop-test .taken) r (low .lower .ensures) in
+    let lt : r < a .n = omega (arith, low .lower .ensures .to, c .before .before .before .if1 .left) in
+    going-last (a .class) (s .pre .2) (a .n) (a .rows .now) (a .order .now) (a .s .at) r (l .key) (l .left) here (test .loop-test .taken) (s .pre .0) lt (low .lower .ensures .after r (omega arith) lt) (λ e. c .before .if2 .left (c .before .before .word-at .ensures ∙ e)) (c .if3 .taken)
+
 next-key-requires : tie.Need-next-key-requires Inv-loop μ-loop
-next-key-requires c κs = search needs
+next-key-requires c κs =
+    let test = c .before .before .before .before .before in
+    let l = test .before .loop in
+    let s = test .before .before .before .before .before in
+    (s .pre .2, l .inv .sweeping .key-is (test .loop-test .taken), omega (arith, test .loop-test .taken, c .if3 .left))
 
 sub-left : tie.Need-sub-left Inv-loop μ-loop
 sub-left c = search needs
@@ -62,18 +78,18 @@ loop-less c = search needs
 
 loop-again : tie.Need-loop-again Inv-loop μ-loop
 loop-again c =
-    let low = c .before .before .before .before in
+    let low = c .before .before .before .before .before in
     let test = low .before in
     let l = test .before .loop in
     let s = test .before .before .before .before .before in
     let a = s .args in
     let r = low .lower .result in
     let here = going-lower (a .class) (s .pre .2) (a .n) (a .rows .now) (a .order .now) (a .s .at) (l .at) (l .key) (l .left) (l .inv) (test .loop-test .taken) r (low .lower .ensures) in
-    let lt : r < a .n = omega (arith, low .lower .ensures .to, c .before .before .before .if1 .left) in
-    going-next (a .class) (s .pre .2) (a .n) (a .rows .now) (a .order .now) (a .s .at) r (l .key) (l .left) here (test .loop-test .taken) (s .pre .0) lt (low .lower .ensures .after r (omega arith) lt) (λ e. c .before .if2 .left (c .before .before .word-at .ensures ∙ e)) (c .next-key .result) (c .next-key .ensures)
+    let lt : r < a .n = omega (arith, low .lower .ensures .to, c .before .before .before .before .if1 .left) in
+    going-next (a .class) (s .pre .2) (a .n) (a .rows .now) (a .order .now) (a .s .at) r (l .key) (l .left) here (test .loop-test .taken) (s .pre .0) lt (low .lower .ensures .after r (omega arith) lt) (λ e. c .before .before .if2 .left (c .before .before .before .word-at .ensures ∙ e)) (omega (arith, test .loop-test .taken, c .before .if3 .left)) (c .next-key .result) (c .next-key .ensures)
 
-returns-3 : tie.Need-returns-3 Inv-loop μ-loop
-returns-3 c =
+returns-4 : tie.Need-returns-4 Inv-loop μ-loop
+returns-4 c =
     let l = c .before .loop in
     let s = c .before .before .before .before .before in
     let a = s .args in
@@ -90,8 +106,9 @@ settle-keys-spec =
     returns
     word-at-requires
     returns-2
+    returns-3
     next-key-requires
     sub-left
     loop-less
     loop-again
-    returns-3)
+    returns-4)

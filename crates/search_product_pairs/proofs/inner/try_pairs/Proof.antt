@@ -12,7 +12,8 @@ use Rattle.search_product_trial.specs.Stages.{Tried}
 use Rattle.search_product_trial.specs.Steps.{Target}
 use Rattle.search_product_trial.proofs.Slots.{slots-in}
 use Rattle.search_product_trial.proofs.Keeping.{none-kept, pairs-dear, pairs-same}
-use Rattle.search_product_pairs.proofs.Slots.{slots-used, slots-unused, asked, none-fits, narrows, small, listed-is}
+use Rattle.search_filter.proofs.Running.{class-small}
+use Rattle.search_product_pairs.proofs.Slots.{slots-used, slots-unused, asked, none-fits, narrows, listed-is}
 use native.Mathlib.Omega.{arith}
 use borrow.Author.Needs.{needs}
 use Rattle.search_product_pairs.proofs.inner.try_pairs.Statement.{statement}
@@ -103,7 +104,7 @@ try-class-requires c κs =
     let class = solved-class (sol .solve .ensures) (c .before .solution .given .1) in (
       lent,
       s .pre .1,
-      small (a .w) (a .target .now) (a .atoms .now) (a .listed .now) (a .a) ok (r .reduce .result) (r .reduce .ensures) _ _ class,
+      class-small (lent .width) class,
       narrows (a .w) (a .target .now) (a .atoms .now) (a .listed .now) (a .a) ok (r .reduce .result) (r .reduce .ensures) _ _ class,
       s .pre .2,
     )
