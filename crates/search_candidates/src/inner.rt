@@ -1,11 +1,11 @@
 // What the candidates are made of: the refusals and the listing.
 ghost use mathlib.Core.Path.{_≡_};
-ghost use Prim.Native.Nat.{_≤_};
+ghost use Prim.Native.Nat.{_≤_, _<_};
 ghost use lib.ListN.{length};
 ghost use Rattle.search_filter.specs.Places.{Ordered};
 ghost use Rattle.search_filter.specs.Sweeps.{inClass, Small};
 ghost use Rattle.search_candidates.specs.Candidates.{candidatesRefusal};
-ghost use Rattle.search_candidates.specs.Steps.{Kept};
+ghost use Rattle.search_candidates.specs.Steps.{RunListed, Kept};
 
 // The refusal of the candidates; 0 for none.
 pub fn candidates_refusal(
@@ -47,6 +47,25 @@ pub fn candidates_refusal(
     8
 }
 
+// Writes the run of slots from place `at` on that share one first word to the list, from place k on, and answers where it ends.
+fn list_run(list: &mut [u32], listed: &[u64], order: &[u32], n: usize, at: usize, k: usize) -> usize
+    requires { ⌜ Ordered n (now listed) (now order) × (at < n) × (k ≤ at) × (n ≤ length (now list)) ⌝ }
+    ensures { λ r. ⌜ RunListed n (now (listed .entry)) (now (order .entry)) (now (list .entry)) (now (list .exit)) at k r ⌝ }
+{
+    let word = search_filter::inner::word_at(listed, order, n, at);
+    let mut i = at;
+    let mut j = k;
+    while i < n {
+        if search_filter::inner::word_at(listed, order, n, i) != word {
+            return i;
+        }
+        list[j] = order[i];
+        i += 1;
+        j += 1;
+    }
+    i
+}
+
 // Writes the slots of the class to the list, in order-list order, and answers how many.
 pub fn collect(
     list: &mut [u32],
@@ -63,9 +82,9 @@ pub fn collect(
     let mut k: usize = 0;
     while s.at < n {
         let at = s.at;
-        list[k] = order[at];
-        k += 1;
-        s = search_filter::inner::next_from(listed, order, n, listed, 0, class, s, at + 1);
+        let end = list_run(list, listed, order, n, at, k);
+        k += end - at;
+        s = search_filter::inner::next_from(listed, order, n, listed, 0, class, s, end);
     }
     k
 }

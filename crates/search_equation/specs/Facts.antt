@@ -15,7 +15,7 @@ pub record Met (w p least f : ℕ) : Type 0 where
   pub few : i < 2 ^ zerosOf p
   pub is : f ≡ runningValue w (zerosOf p) least i
 
--- the 2^z values met from the least solution on ascend, are solutions below 2^w, and no other is
+-- the 2^z values met from the least solution on ascend, are solutions below 2^w, and no other number below 2^w is one
 pub record Solutions (w p t : ℕ) : Type 0 where
   pub least : ℕ
   pub is-least : Least w p t least
@@ -23,7 +23,7 @@ pub record Solutions (w p t : ℕ) : Type 0 where
   pub each : (f : ℕ) → Met w p least f → (f < 2 ^ w) × (solves w p t f ≡ true)
   pub every : (f : ℕ) → f < 2 ^ w → solves w p t f ≡ true → Met w p least f
 
--- ---- the facts, for every width, p ≠ 0 and t
+-- ---- the facts, for every width, p ≠ 0 below 2^w and every t
 -- 02, 2.5: for p ≠ 0 and 2^z dividing t the 2^z values so met ascend and are every solution below 2^w. 02 asks for z at most 8, where the filter looks them up; it holds for every z
 abbrev pub KeysBySteps : Type 0
 KeysBySteps = (w p t : ℕ) → w ≤ 64 → 0 < p → p < 2 ^ w → t % 2 ^ zerosOf p ≡ 0 → Solutions w p t

@@ -15,7 +15,7 @@ use Rattle.search_filter.specs.declared.inner.Residue.{Residue}
 use Rattle.search_filter.specs.declared.inner.Sweep.{Sweep}
 use Rattle.search_filter.specs.Places.{wordAt, Ordered, Lower, Skips, FirstOf}
 use Rattle.search_filter.specs.Sweeps.{inClass, Small, IsKey, Sweeping, Settled}
-use Rattle.search_filter.specs.Steps.{Begun, KeysPassed, KeySettled}
+use Rattle.search_filter.specs.Steps.{Fresh, KeysPassed, KeySettled}
 use Rattle.search_filter.proofs.PlaceLaws.{skips-none, skips-join}
 use Rattle.arrays.proofs.Lists.{is-false}
 use Rattle.search_filter.proofs.Running.{key-class, rest-next, next-value}
@@ -57,13 +57,13 @@ module _ (c : Residue) (small : Small c) where
     of-class k e = eqb-true _ _ e
 
     -- ---- where a sweep begins
-    begins : {s : Sweep} → Begun c s → s .key ≡ c .first
+    begins : {s : Sweep} → Fresh c s → s .key ≡ c .first
     unfolding runningValue
     begins {s} b =
         let none : 2 ^ c .zeros - s .left ≡ 0 = omega (arith, b .all-left) in
         b .key-is .is ∙ ap (runningValue (c .w) (c .zeros) (c .first)) none
 
-    pub sweeping-start : (s : Sweep) → Begun c s → Sweeping c n rows order s
+    pub sweeping-start : (s : Sweep) → Fresh c s → Sweeping c n rows order s
     sweeping-start s b = record {
       within = omega (arith, b .at-first);
       key-is = λ _. b .key-is;
@@ -102,7 +102,7 @@ module _ (c : Residue) (small : Small c) where
             };
             from = g .from;
             skips = g .skips;
-            stops = λ p. absurd (omega arith);
+            at-key = record { within = λ p. absurd (omega arith); is = λ p. absurd (omega arith) };
           }
 
       module _ (some : 0 < left) where
@@ -140,16 +140,16 @@ module _ (c : Residue) (small : Small c) where
           };
           from = omega (arith, g .from);
           skips = λ k l h. g .skips k l (omega arith);
-          stops = λ p. absurd (omega arith);
+          at-key = record { within = λ p. absurd (omega arith); is = λ p. absurd (omega arith) };
         }
 
         -- the word there is the key
-        pub going-hit : wordAt rows order at ≡ key → KeySettled c n rows order a (record { at = at; key = key; left = left })
-        going-hit e = record {
+        pub going-hit : at < n → wordAt rows order at ≡ key → KeySettled c n rows order a (record { at = at; key = key; left = left })
+        going-hit h e = record {
           sweeping = g .sweeping;
           from = g .from;
           skips = g .skips;
-          stops = λ _. eq-eqb _ _ (ap (λ (x : ℕ). x % step) e ∙ key-class c small key left is-key);
+          at-key = record { within = λ _. h; is = λ _. e };
         }
 
         -- the word there is beyond the key: one key less
@@ -161,7 +161,7 @@ module _ (c : Residue) (small : Small c) where
               step-further step key (wordAt rows order k) (c .first) (key-class c small key left is-key) (of-class k y) lt
 
           -- it was the last
-          pub going-last : left ≡ 1 → KeySettled c n rows order a (record { at = at; key = key; left = 0 })
+          pub going-last : left ≤ 1 → KeySettled c n rows order a (record { at = at; key = key; left = 0 })
           going-last e = record {
             sweeping = record {
               within = g .sweeping .within;
@@ -171,12 +171,12 @@ module _ (c : Residue) (small : Small c) where
             };
             from = g .from;
             skips = g .skips;
-            stops = λ p. absurd (omega arith);
+            at-key = record { within = λ p. absurd (omega arith); is = λ p. absurd (omega arith) };
           }
             where
               passed : (v : ℕ) → key + step ≤ v → 2 ^ c .w ≤ v
               passed v h =
-                  let none : (left - 1) * step ≡ 0 = ap (λ (x : ℕ). (x - 1) * step) e ∙ zero-mul step in
+                  let none : (left - 1) * step ≡ 0 = let z : left - 1 ≡ 0 = omega arith in ap (λ (x : ℕ). x * step) z ∙ zero-mul step in
                   let rest = rest-next c small key left is-key in
                   omega arith
 
@@ -225,7 +225,13 @@ module _ (c : Residue) (small : Small c) where
 
     -- ---- the keys, and the tail after them
     pub settled-key : (a : ℕ) (s : Sweep) → 0 < s .left → KeySettled c n rows order a s → Settled c n rows order a s
-    settled-key a s p k = record { sweeping = k .sweeping; from = k .from; skips = k .skips; stops = λ _. k .stops p }
+    settled-key a s p k = record {
+      sweeping = k .sweeping;
+      from = k .from;
+      skips = k .skips;
+      stops = λ _. eq-eqb _ _ (ap (λ (x : ℕ). x % step) (k .at-key .is p) ∙ key-class c small (s .key) (s .left) (k .sweeping .key-is p));
+      at-key = k .at-key;
+    }
 
     pub settled-tail : (a r : ℕ) (s : Sweep) → s .left ≤ 0 → KeySettled c n rows order a s → FirstOf (inClass c rows) n order (s .at) r → Settled c n rows order a (record { at = r; key = s .key; left = 0 })
     settled-tail a r s z k f = record {
@@ -238,4 +244,5 @@ module _ (c : Residue) (small : Small c) where
       from = omega (arith, k .from, f .from);
       skips = skips-join (inClass c rows) order a (s .at) r (k .skips) (f .skips);
       stops = f .stops;
+      at-key = record { within = λ p. absurd (omega arith); is = λ p. absurd (omega arith) };
     }

@@ -18,6 +18,6 @@ pub record KeysOf (p t : ℕ) (c : Residue) : Type 0 where
   pub each : (f left : ℕ) → IsKey c f left → (f < 2 ^ c .w) × (solves (c .w) p t f ≡ true)
   pub every : (f : ℕ) → f < 2 ^ c .w → solves (c .w) p t f ≡ true → Keyed c f
 
--- 02, 2.5, of the code's running value: so it is where the class is the answer of `solve`
+-- 02, 2.5, of the code's running value: where the class is what `solve` answered, its keys are the solutions below 2^w, ascending
 abbrev pub KeysAreSolutions : Type 0
 KeysAreSolutions = (w p t zeros first : ℕ) → w ≤ 64 → p < 2 ^ w → IsClass w p t zeros first → KeysOf p t record { w = w; zeros = zeros; first = first }

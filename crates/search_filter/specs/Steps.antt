@@ -7,7 +7,7 @@ use lib.ListN.{getD}
 use Rattle.search_filter.specs.declared.inner.Residue.{Residue}
 use Rattle.search_filter.specs.declared.inner.Sweep.{Sweep}
 use Rattle.search_filter.specs.Places.{wordAt, sampleStep, Skips}
-use Rattle.search_filter.specs.Sweeps.{inClass, IsKey, Sweeping}
+use Rattle.search_filter.specs.Sweeps.{inClass, IsKey, Sweeping, AtKey}
 
 -- f ascends up to n
 pub record Ascends (f : ℕ → ℕ) (n : ℕ) : Type 0 where
@@ -18,8 +18,8 @@ pub record AfterSamples (lo u r : ℕ) : Type 0 where
   pub from : lo ≤ r
   pub to : lo < r → r + sampleStep ≤ sampleStep * u + 1
 
--- a sweep that hasn't begun to look: all 2^z keys are left
-pub record Begun (c : Residue) (s : Sweep) : Type 0 where
+-- a sweep before its first look: all 2^zeros keys are left
+pub record Fresh (c : Residue) (s : Sweep) : Type 0 where
   pub at-first : s .at ≡ 0
   pub all-left : s .left ≡ 2 ^ c .zeros
   pub key-is : IsKey c (s .key) (s .left)
@@ -35,9 +35,9 @@ pub record KeysPassed (c : Residue) (n : ℕ) (rows order : List ℕ) (a : ℕ) 
   pub within : a ≤ n
   pub beyond : (k : ℕ) → a ≤ k → k < n → inClass c rows (getD order k 0) ≡ true → 2 ^ c .w ≤ wordAt rows order k
 
--- the sweep is at the first place from a on whose word is of the class, or no key is left
+-- the sweep is at the first place from a on whose word is of the class, which is its key, or no key is left
 pub record KeySettled (c : Residue) (n : ℕ) (rows order : List ℕ) (a : ℕ) (s : Sweep) : Type 0 where
   pub sweeping : Sweeping c n rows order s
   pub from : a ≤ s .at
   pub skips : Skips (inClass c rows) order a (s .at)
-  pub stops : 0 < s .left → inClass c rows (getD order (s .at) 0) ≡ true
+  pub at-key : AtKey n rows order s

@@ -22,7 +22,7 @@ pub record Small (c : Residue) : Type 0 where
   pub few : c .zeros ≤ 8
   pub below : c .first < 2 ^ (c .w - c .zeros)
 
--- the keys are the first 2^z values of the running value from `first` on: with so many left, it included, `key` is the next
+-- the keys are the first 2^zeros values of the running value from `first` on: where `left` of them are still to come, `key` included, `key` is number 2^zeros - left
 pub record IsKey (c : Residue) (key left : ℕ) : Type 0 where
   pub some : 0 < left
   pub most : left ≤ 2 ^ c .zeros
@@ -35,9 +35,15 @@ pub record Sweeping (c : Residue) (n : ℕ) (rows order : List ℕ) (s : Sweep) 
   pub above : 0 < s .left → (k : ℕ) → s .at ≤ k → k < n → inClass c rows (getD order k 0) ≡ true → s .key ≤ wordAt rows order k
   pub beyond : s .left ≡ 0 → (k : ℕ) → s .at ≤ k → k < n → inClass c rows (getD order k 0) ≡ true → 2 ^ c .w ≤ wordAt rows order k
 
+-- the sweep's key is the word at its place, as long as a key is left
+pub record AtKey (n : ℕ) (rows order : List ℕ) (s : Sweep) : Type 0 where
+  pub within : 0 < s .left → s .at < n
+  pub is : 0 < s .left → wordAt rows order (s .at) ≡ s .key
+
 -- the first place from a on whose word is of the class, n if there is none
 pub record Settled (c : Residue) (n : ℕ) (rows order : List ℕ) (a : ℕ) (s : Sweep) : Type 0 where
   pub sweeping : Sweeping c n rows order s
   pub from : a ≤ s .at
   pub skips : Skips (inClass c rows) order a (s .at)
   pub stops : s .at < n → inClass c rows (getD order (s .at) 0) ≡ true
+  pub at-key : AtKey n rows order s

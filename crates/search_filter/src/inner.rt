@@ -4,7 +4,7 @@ ghost use Prim.Native.Nat.{ℕ, _-_, _≤_, _<_};
 ghost use lib.ListN.{length, getD};
 ghost use Rattle.search_filter.specs.Places.{wordAt, Ordered, Sampled, Reached, Lower, FirstOf};
 ghost use Rattle.search_filter.specs.Sweeps.{inClass, Small, IsKey, Sweeping, Settled};
-ghost use Rattle.search_filter.specs.Steps.{Ascends, AfterSamples, Begun, Window, KeysPassed, KeySettled};
+ghost use Rattle.search_filter.specs.Steps.{Ascends, AfterSamples, Fresh, Window, KeysPassed, KeySettled};
 
 // The words that leave `first` modulo 2^(w - zeros); those below 2^w are keys, 2^zeros of them.
 pub struct Residue {
@@ -13,7 +13,7 @@ pub struct Residue {
     pub first: u64,
 }
 
-// The place that a sweep has come to, its running value, which is the key that it looks for, and how many keys are left with it.
+// The place that a sweep has come to, its running value, which is the key that it looks for, and how many keys are left, this one included.
 pub struct Sweep {
     pub at: usize,
     pub key: u64,
@@ -27,7 +27,7 @@ const SCANNED: usize = 4;
 pub const SAMPLE_STEP: usize = 64;
 
 // The first word of the slot at place k.
-fn word_at(rows: &[u64], order: &[u32], n: usize, k: usize) -> u64
+pub fn word_at(rows: &[u64], order: &[u32], n: usize, k: usize) -> u64
     requires { ⌜ Ordered n (now rows) (now order) × (k < n) ⌝ }
     ensures { λ r. ⌜ r ≡ wordAt (now (rows .entry)) (now (order .entry)) k ⌝ }
 {
@@ -143,10 +143,10 @@ pub fn lower(
     lower_between(rows, order, n, from, n, key)
 }
 
-// The running value begins at the least key.
-fn first_key(class: Residue) -> Sweep
+// A sweep at the first place, its running value at the least key.
+fn first_sweep(class: Residue) -> Sweep
     requires { ⌜ Small class ⌝ }
-    ensures { λ r. ⌜ Begun class r ⌝ }
+    ensures { λ r. ⌜ Fresh class r ⌝ }
 {
     let left: u64 = 1 << class.zeros;
     Sweep {
@@ -156,7 +156,7 @@ fn first_key(class: Residue) -> Sweep
     }
 }
 
-// The next key is 2^(w - zeros) more. After the last none is asked for: with one key alone the step may be 2^64.
+// The next value: 2^(w - zeros) more. After the last key there is no step: at width 64 with no zeros it would be 2^64.
 fn next_key(class: Residue, key: u64, left: u64) -> u64
     requires { ⌜ Small class × IsKey class key left × (1 < left) ⌝ }
     ensures { λ r. ⌜ IsKey class r (left - 1) ⌝ }
@@ -291,7 +291,7 @@ pub fn first_place(
     requires { ⌜ Ordered n (now rows) (now order) × Sampled n (now rows) (now order) (now samples) m × Small class ⌝ }
     ensures { λ r. ⌜ Settled class n (now (rows .entry)) (now (order .entry)) 0 r ⌝ }
 {
-    settle(rows, order, n, samples, m, class, first_key(class))
+    settle(rows, order, n, samples, m, class, first_sweep(class))
 }
 
 // The next place of the class from `from` on, which is after the one that the sweep has come to.

@@ -24,53 +24,44 @@ loop-holds c =
     let a = s .args in
     filling-start (a .class) (a .n) (a .listed .now) (a .order .now) (a .list .now) (s .pre .0 .order-fit) (s .pre .2) (c .first-place .result) (c .first-place .ensures)
 
-mul-list : tie.Need-mul-list Inv-loop μ-loop
-mul-list c = search needs
-
-shared-slice-read-list : tie.Need-shared-slice-read-list Inv-loop μ-loop
-shared-slice-read-list c =
-    let test = c .before in
-    let s = c .before .before .before .before .before .before .before .before in
-    omega (arith, test .if1 .taken, s .pre .0 .order-fit)
-
-mul-list-2 : tie.Need-mul-list-2 Inv-loop μ-loop
-mul-list-2 c = search needs
-
-slice-write-list : tie.Need-slice-write-list Inv-loop μ-loop
-slice-write-list c =
+list-run-requires : tie.Need-list-run-requires Inv-loop μ-loop
+list-run-requires c κs =
     let test = c .before in
     let l = test .before .before .loop in
-    let s = c .before .before .before .before .before .before .before .before in
-    omega (arith, test .if1 .taken, l .inv .few, l .inv .size, s .pre .2)
+    let s = test .before .before .before .before .before .before .before in
+    (s .pre .0, test .if1 .taken, l .inv .few, omega (arith, l .inv .size, s .pre .2))
+
+sub-k : tie.Need-sub-k Inv-loop μ-loop
+sub-k c = omega (arith, c .before .before .list-run .ensures .more)
 
 add-k : tie.Need-add-k Inv-loop μ-loop
 add-k c =
-    let test = c .before in
-    let l = test .before .before .loop in
-    let s = c .before .before .before .before .before .before .before .before in
-    omega (arith, test .if1 .taken, l .inv .few, s .pre .0 .most)
-
-add-next-from : tie.Need-add-next-from Inv-loop μ-loop
-add-next-from c = search needs
+    let run = c .before .before in
+    let l = run .before .before .before .before .loop in
+    let s = run .before .before .before .before .before .before .before .before .before in
+    omega (arith, run .list-run .ensures .to, run .list-run .ensures .more, l .inv .few, s .pre .0 .most)
 
 next-from-requires : tie.Need-next-from-requires Inv-loop μ-loop
 next-from-requires c κs =
-    let test = c .before in
-    let l = test .before .before .loop in
-    let s = c .before .before .before .before .before .before .before .before in
+    let run = c .before .before in
+    let l = run .before .before .before .before .loop in
+    let s = run .before .before .before .before .before .before .before .before .before in
     let a = s .args in
-    (s .pre .0, no-samples (a .n) (a .listed .now) (a .order .now) (a .listed .now), s .pre .1, l .inv .sweeping, omega arith, omega (arith, test .if1 .taken))
+    (s .pre .0, no-samples (a .n) (a .listed .now) (a .order .now) (a .listed .now), s .pre .1, l .inv .sweeping, run .list-run .ensures .more, run .list-run .ensures .to)
 
 loop-less : tie.Need-loop-less Inv-loop μ-loop
-loop-less c = omega (arith, c .before .before .if1 .taken, c .next-from .ensures .from)
+loop-less c =
+    let run = c .before .before .before in
+    omega (arith, run .before .before .if1 .taken, run .list-run .ensures .more, c .next-from .ensures .from)
 
 loop-again : tie.Need-loop-again Inv-loop μ-loop
 loop-again c =
-    let test = c .before .before in
+    let run = c .before .before .before in
+    let test = run .before .before in
     let l = test .before .before .loop in
-    let s = c .before .before .before .before .before .before .before .before .before in
+    let s = test .before .before .before .before .before .before .before in
     let a = s .args in
-    filling-more (a .class) (a .n) (a .listed .now) (a .order .now) (a .list .now) (s .pre .0 .order-fit) (s .pre .2) (l .list) (l .s) (l .k) (l .inv) (c .next-from .result) (test .if1 .taken) (c .next-from .ensures)
+    filling-more (a .class) (a .n) (a .listed .now) (a .order .now) (a .list .now) (s .pre .0 .order-fit) (s .pre .2) (l .list) (l .s) (l .k) (l .inv) _ (run .list-run .result) (c .next-from .result) (test .if1 .taken) (run .list-run .ensures) (c .next-from .ensures)
 
 same-length : tie.Need-same-length Inv-loop μ-loop
 same-length c = c .before .before .loop .inv .size
@@ -90,12 +81,9 @@ collect-spec =
     μ-loop
     first-place-requires
     loop-holds
-    mul-list
-    shared-slice-read-list
-    mul-list-2
-    slice-write-list
+    list-run-requires
+    sub-k
     add-k
-    add-next-from
     next-from-requires
     loop-less
     loop-again

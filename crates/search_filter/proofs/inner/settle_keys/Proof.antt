@@ -49,7 +49,7 @@ returns-2 c =
     let a = s .args in
     let r = low .lower .result in
     let here = going-lower (a .class) (s .pre .2) (a .n) (a .rows .now) (a .order .now) (a .s .at) (l .at) (l .key) (l .left) (l .inv) (test .loop-test .taken) r (low .lower .ensures) in
-    going-hit (a .class) (s .pre .2) (a .n) (a .rows .now) (a .order .now) (a .s .at) r (l .key) (l .left) here (test .loop-test .taken) (sym (c .before .word-at .ensures) ∙ c .if2 .taken)
+    going-hit (a .class) (s .pre .2) (a .n) (a .rows .now) (a .order .now) (a .s .at) r (l .key) (l .left) here (test .loop-test .taken) (omega (arith, low .lower .ensures .to, c .before .before .if1 .left)) (sym (c .before .word-at .ensures) ∙ c .if2 .taken)
 
 returns-3 : tie.Need-returns-3 Inv-loop μ-loop
 returns-3 c =
@@ -61,7 +61,7 @@ returns-3 c =
     let r = low .lower .result in
     let here = going-lower (a .class) (s .pre .2) (a .n) (a .rows .now) (a .order .now) (a .s .at) (l .at) (l .key) (l .left) (l .inv) (test .loop-test .taken) r (low .lower .ensures) in
     let lt : r < a .n = omega (arith, low .lower .ensures .to, c .before .before .before .if1 .left) in
-    going-last (a .class) (s .pre .2) (a .n) (a .rows .now) (a .order .now) (a .s .at) r (l .key) (l .left) here (test .loop-test .taken) (s .pre .0) lt (low .lower .ensures .after r (omega arith) lt) (λ e. c .before .if2 .left (c .before .before .word-at .ensures ∙ e)) (c .if3 .taken)
+    going-last (a .class) (s .pre .2) (a .n) (a .rows .now) (a .order .now) (a .s .at) r (l .key) (l .left) here (test .loop-test .taken) (s .pre .0) lt (low .lower .ensures .after r (omega arith) lt) (λ e. c .before .if2 .left (c .before .before .word-at .ensures ∙ e)) (omega (arith, c .if3 .taken))
 
 next-key-requires : tie.Need-next-key-requires Inv-loop μ-loop
 next-key-requires c κs =
