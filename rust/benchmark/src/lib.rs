@@ -4,6 +4,7 @@
 //! Every module makes the two sides of its calls from one [`Setting`], and checks that they give the same answer before it times them.
 
 mod builds;
+mod candidates;
 mod clock;
 mod formulas;
 pub mod load;
@@ -42,6 +43,10 @@ pub enum Call {
     SearchZeros,
     SearchConstant,
     SearchEven,
+    CandidatesOne,
+    CandidatesMany,
+    CandidatesFewPairs,
+    CandidatesBuckets,
     ResidualNothing,
     ResidualAtoms,
     ResidualPairEarly,
@@ -55,7 +60,7 @@ pub enum Call {
 
 impl Call {
     /// All calls, in the tables' order.
-    pub const ALL: [Call; 20] = [
+    pub const ALL: [Call; 24] = [
         Call::Bank,
         Call::Index,
         Call::SearchNothing,
@@ -67,6 +72,10 @@ impl Call {
         Call::SearchZeros,
         Call::SearchConstant,
         Call::SearchEven,
+        Call::CandidatesOne,
+        Call::CandidatesMany,
+        Call::CandidatesFewPairs,
+        Call::CandidatesBuckets,
         Call::ResidualNothing,
         Call::ResidualAtoms,
         Call::ResidualPairEarly,
@@ -92,6 +101,10 @@ impl Call {
             Call::SearchZeros => "Product search, zeros, very many fit",
             Call::SearchConstant => "Product search, a constant",
             Call::SearchEven => "Product search, even words, very many fit",
+            Call::CandidatesOne => "Candidates, one key",
+            Call::CandidatesMany => "Candidates, very many keys",
+            Call::CandidatesFewPairs => "Candidates, few pairs, very many keys",
+            Call::CandidatesBuckets => "Candidates, the Rust's buckets made before",
             Call::ResidualNothing => "Residual search, nothing",
             Call::ResidualAtoms => "Residual search, two atoms",
             Call::ResidualPairEarly => "Residual search, atom and pair, early",
@@ -108,7 +121,7 @@ impl Call {
     pub fn bar(self) -> Option<f64> {
         match self {
             Call::Bank | Call::Index => Some(0.5),
-            Call::EvaluateCompiled | Call::ResidualMaps => None,
+            Call::EvaluateCompiled | Call::ResidualMaps | Call::CandidatesBuckets => None,
             _ => Some(1.0),
         }
     }
@@ -145,6 +158,7 @@ pub fn time_setting(plan: &Plan, setting: &mut Setting) -> Vec<Line> {
     if width != RESIDUALS_ALONE {
         builds::time(plan, setting, &mut take);
         searches::time(plan, setting, &mut take);
+        candidates::time(plan, setting, &mut take);
         formulas::time(plan, num_vars, width, &mut take);
         load::time(plan, num_vars, width, &mut take);
     }
@@ -160,6 +174,7 @@ pub fn check_setting(setting: &Setting) {
     }
     if setting.width != RESIDUALS_ALONE {
         searches::check(setting);
+        candidates::check(setting);
         formulas::check(setting.num_vars, setting.width);
         load::check(setting.num_vars, setting.width);
     }

@@ -198,7 +198,7 @@ fn are_pairs(words: &[u32], atoms: usize) -> bool {
 
 /// Whether all slots of the list are below its length, and strictly ascending by (first row word, slot): what refusal 8 tests. Reads
 /// each first word once.
-fn is_order_list(rows: &[u64], order: &[u32]) -> bool {
+pub(crate) fn is_order_list(rows: &[u64], order: &[u32]) -> bool {
     let mut last = None;
     for &slot in order {
         if slot as usize >= order.len() {

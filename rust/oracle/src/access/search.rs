@@ -8,7 +8,7 @@ use super::super::{
 };
 use super::bank::{map_of, pool_of, pool_of_rows, AtomView};
 use super::formulas::formula_of;
-use super::index::{buckets_of, inner_of, inner_of_rows, IndexView};
+use super::index::{buckets_of, inner_of, inner_of_rows, IndexView, Inner};
 use super::{Formula, Row};
 use crate::core::evaluator::Evaluator;
 use crate::core::expr::Expr;
@@ -26,6 +26,18 @@ pub fn candidates(first_words: &[u64], p: u64, t: u64, width: u32) -> (bool, Vec
     let mut list = Vec::new();
     let used = collect_mul_probe0_candidates(&buckets_of(first_words), p, t, width, &mut list);
     (used, list)
+}
+
+impl Inner {
+    /// A table of which only rows and buckets are read.
+    pub fn of_rows(rows: &[Row]) -> Self {
+        Self(inner_of_rows(rows))
+    }
+
+    /// `collect_mul_probe0_candidates` over its buckets, into a list that may be used again: whether the filter was used.
+    pub fn candidates(&self, p: u64, t: u64, width: u32, list: &mut Vec<usize>) -> bool {
+        collect_mul_probe0_candidates(&self.0.mul_probe0_buckets, p, t, width, list)
+    }
 }
 
 /// The MUL part of `layer2` for each target, with its check taken as passed and no baseline: the first hit, an atom and a pair.
