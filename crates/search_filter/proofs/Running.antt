@@ -16,7 +16,7 @@ use Rattle.search_equation.proofs.Zeros.{zeros-of-none}
 use Rattle.search_equation.proofs.Solutions.{running-is, running-lt, least-unique, keys-by-steps, no-solution}
 use Rattle.search_filter.specs.declared.inner.Residue.{Residue}
 use Rattle.search_filter.specs.Sweeps.{Small, IsKey}
-use Rattle.search_filter.specs.Facts.{Keyed, KeysAreSolutions}
+use Rattle.search_filter.specs.Facts.{Keyed, KeysAreSolutions, OneKeyNoStep}
 
 module _ (c : Residue) (small : Small c) where
   abbrev pub S : ℕ
@@ -155,3 +155,11 @@ keys-are-solutions w p t zeros first wide small is = record {
   each = λ f left k. met w p t zeros first wide small is .each f (key-met w p t zeros first wide small is f left k);
   every = λ f h s. met-key w p t zeros first wide small is f (met w p t zeros first wide small is .every f h s);
 }
+
+pub one-key-no-step : OneKeyNoStep
+unfolding runningValue
+one-key-no-step c key left e k =
+    let one : 2 ^ c .zeros ≡ 1 = ap (λ (z : ℕ). 2 ^ z) e in
+    let is-one : left ≡ 1 = omega (arith, k .some, k .most) in
+    let none : 2 ^ c .zeros - left ≡ 0 = omega arith in
+    (k .is ∙ ap (runningValue (c .w) (c .zeros) (c .first)) none, is-one)

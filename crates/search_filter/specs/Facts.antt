@@ -21,3 +21,7 @@ pub record KeysOf (p t : ℕ) (c : Residue) : Type 0 where
 -- 02, 2.5, of the code's running value: where the class is what `solve` answered, its keys are the solutions below 2^w, ascending
 abbrev pub KeysAreSolutions : Type 0
 KeysAreSolutions = (w p t zeros first : ℕ) → w ≤ 64 → p < 2 ^ w → IsClass w p t zeros first → KeysOf p t record { w = w; zeros = zeros; first = first }
+
+-- 02, 2.5: with no zeros there is one key, and no step, which would be 2^64 at width 64
+abbrev pub OneKeyNoStep : Type 0
+OneKeyNoStep = (c : Residue) (key left : ℕ) → c .zeros ≡ 0 → IsKey c key left → (key ≡ c .first) × (left ≡ 1)

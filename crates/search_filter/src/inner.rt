@@ -161,8 +161,8 @@ fn next_key(class: Residue, key: u64, left: u64) -> u64
     requires { ⌜ Small class × IsKey class key left × (1 < left) ⌝ }
     ensures { λ r. ⌜ IsKey class r (left - 1) ⌝ }
 {
-    let bits = class.w - class.zeros;
-    key + (1 << bits)
+    let step: u64 = 1 << (class.w - class.zeros);
+    key + step
 }
 
 // From the sweep's place on, the first place whose first word is one of the keys left.

@@ -8,17 +8,17 @@ use Rattle.search_filter.proofs.Running.{step-small, next-below, key-ne
 use Rattle.search_filter.proofs.inner.next_key.Statement.{statement}
 use Rattle.search_filter.proofs.inner.next_key.Tie as tie
 
-sub-bits : tie.Need-sub-bits
-sub-bits c = search needs
+sub-step : tie.Need-sub-step
+sub-step c = search needs
 
-cast-result : tie.Need-cast-result
-cast-result c = search needs
+cast-step : tie.Need-cast-step
+cast-step c = search needs
 
-shl-result : tie.Need-shl-result
-shl-result c =
+shl-step : tie.Need-shl-step
+shl-step c =
     let s = c .before in
     let a = s .args in
-    step-small (a .class) (s .pre .0) (a .key) (a .left) (s .pre .1) (s .pre .2)
+    omega (arith, s .pre .0 .few, step-small (a .class) (s .pre .0) (a .key) (a .left) (s .pre .1) (s .pre .2))
 
 add-result : tie.Need-add-result
 add-result c =
@@ -35,4 +35,4 @@ returns c =
     key-next (a .class) (s .pre .0) (a .key) (a .left) (s .pre .1) (s .pre .2) _ (ap (λ (x : ℕ). a .key + x) (shl-one bits))
 
 pub next-key-spec : {M : Type 1} → statement M
-next-key-spec = tie.close (tie.spec sub-bits cast-result shl-result add-result returns)
+next-key-spec = tie.close (tie.spec sub-step cast-step shl-step add-result returns)
