@@ -17,6 +17,8 @@ const REFUSED: u64 = 100;
 const PAIRS_MAX: usize = 200;
 /// About how many bytes of a line the words and the order list take at most.
 const BYTES: usize = 640;
+/// How many of the first and of the last keys of a class stand in a line.
+const KEYS_SHOWN: u128 = 12;
 
 /// First words of pairs, and an equation p × f = t.
 #[derive(Clone)]
@@ -79,6 +81,7 @@ pub fn lines(file: &mut DataFile) {
     wrong_orders(file, inputs);
     large_words(file, inputs);
     widths(file, inputs);
+    by_steps(file, inputs);
 }
 
 /// A line that is not refused.
@@ -408,11 +411,54 @@ fn widths(file: &mut DataFile, inputs: &mut Inputs) {
     }
 }
 
+/// Request 2.5: for the least key 0, any and as large as may be.
+fn by_steps(file: &mut DataFile, inputs: &mut Inputs) {
+    let zeros_of = [(1, 0), (2, 1), (9, 8), (16, 8), (33, 3), (63, 8)];
+    for (width, zeros) in zeros_of.into_iter().chain([(64, 0), (64, 1), (64, 8)]) {
+        let p = with_zeros(inputs, width, zeros);
+        let most = largest(width - zeros);
+        for least in [0, inputs.word() & most, most] {
+            answered(file, &stepped(width, zeros, p, least));
+        }
+    }
+}
+
+/// The first and the last keys from `least` on, their neighbours, and what wrong steps come to: 2^zeros after the least, and one step
+/// after the last, which is 2^width or more.
+fn stepped(width: u32, zeros: u32, p: u64, least: u64) -> Input {
+    let step = 1u128 << (width - zeros);
+    let value = |number: u128| u64::try_from(u128::from(least) + number * step).ok();
+    let count = 1u128 << zeros;
+    let near_ends = |number: &u128| *number < KEYS_SHOWN || count - KEYS_SHOWN.min(count) <= *number;
+    let keys: Vec<u64> = (0..count).filter(near_ends).filter_map(value).collect();
+    let beside = keys.iter().step_by(5).flat_map(|key| [key ^ 1, key ^ 2]);
+    let wrong = [Some(least ^ 1 << zeros), value(count)];
+    let words = beside.chain(wrong.into_iter().flatten()).chain(keys.clone());
+    Input {
+        width,
+        words: mixed(&words.collect::<Vec<u64>>()),
+        p,
+        t: spec::product_word(p, least, width),
+    }
+}
+
 #[cfg(test)]
 mod tests {
-    use super::{a_solution, Input};
+    use super::{a_solution, stepped, Input};
     use crate::made::banks::largest;
     use crate::spec::product::product_word;
+
+    /// The first and the last key are listed, and one step after the last where it is a word.
+    #[test]
+    fn ends_of_classes() {
+        for (width, zeros, last) in [(9, 8, 511), (64, 8, u64::MAX), (64, 0, u64::MAX)] {
+            let input = stepped(width, zeros, 1 << zeros, largest(width - zeros));
+            let listed = super::words_of(&input, &input.candidates().expect("used"));
+            assert_eq!(listed[0], largest(width - zeros));
+            assert!(listed.contains(&last));
+            assert_eq!(listed.contains(&last.wrapping_add(2)), width < 64);
+        }
+    }
 
     /// For all p and t, over words of one bit more: the Rust's list is the specification's but for what reaches 2^width
     /// (`Input::candidates` tells), and there is a solution where `a_solution` says so.

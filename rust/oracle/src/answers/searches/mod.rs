@@ -13,7 +13,7 @@ const PRODUCTS: u64 = 16;
 const PRODUCTS_REFUSED: u64 = 17;
 const CANDIDATES_REFUSED: u64 = 18;
 
-const HEAD: [&str; 35] = [
+const HEAD: [&str; 36] = [
     "  15 W N WORDS.. ORDER.. P T ANSWER COUNT SLOTS..",
     "      N pairs with these first words, their order list, and p and t. ANSWER: 0 used (collect_mul_probe0_candidates says",
     "      true), 1 not used, 100 + r refused r; then the COUNT slots of the list, none unless used. The Rust's list comes in",
@@ -40,7 +40,8 @@ const HEAD: [&str; 35] = [
     "      The same for the candidates, with the length of the lent list.",
     "The first lines of kind 15 are the specification's P5 to P8 (of P7 the 256 first words in two lines). After them come",
     "every width, with p odd and even; p with 7, 8, 9 and more trailing zeros; p = 0; no pairs; 200 pairs; words that reach",
-    "2^W; then what is refused: wrong order lists, p or t too large, widths.",
+    "2^W; then what is refused: wrong order lists, p or t too large, widths; then the first and the last solutions of some p",
+    "and t, their neighbours, and what wrong steps from one to the next come to.",
     "The first lines of kind 16 are over P2's bank, the very first for the row of v0 times v0, then D1's inputs, each with an",
     "index at the search's width and with its own, and D2's. After them come banks whose index is small, banks of all styles at",
     "every width, searches at another width than the bank's, searches whose answer hangs on the order in which pairs are tried,",
