@@ -417,7 +417,10 @@ fn by_steps(file: &mut DataFile, inputs: &mut Inputs) {
     for (width, zeros) in zeros_of.into_iter().chain([(64, 0), (64, 1), (64, 8)]) {
         let p = with_zeros(inputs, width, zeros);
         let most = largest(width - zeros);
-        for least in [0, inputs.word() & most, most] {
+        let mut leasts = vec![0, inputs.word() & most, most];
+        leasts.sort_unstable();
+        leasts.dedup();
+        for least in leasts {
             answered(file, &stepped(width, zeros, p, least));
         }
     }
@@ -429,11 +432,14 @@ fn stepped(width: u32, zeros: u32, p: u64, least: u64) -> Input {
     let step = 1u128 << (width - zeros);
     let value = |number: u128| u64::try_from(u128::from(least) + number * step).ok();
     let count = 1u128 << zeros;
-    let near_ends = |number: &u128| *number < KEYS_SHOWN || count - KEYS_SHOWN.min(count) <= *number;
+    let near_ends =
+        |number: &u128| *number < KEYS_SHOWN || count - KEYS_SHOWN.min(count) <= *number;
     let keys: Vec<u64> = (0..count).filter(near_ends).filter_map(value).collect();
     let beside = keys.iter().step_by(5).flat_map(|key| [key ^ 1, key ^ 2]);
     let wrong = [Some(least ^ 1 << zeros), value(count)];
-    let words = beside.chain(wrong.into_iter().flatten()).chain(keys.clone());
+    let words = beside
+        .chain(wrong.into_iter().flatten())
+        .chain(keys.clone());
     Input {
         width,
         words: mixed(&words.collect::<Vec<u64>>()),
