@@ -148,7 +148,7 @@ fn list_solutions(equation: &Equation<'_>, least: u64, bits: u32, list: &mut [u3
     let first_word = |slot: u32| pairs.rows[ROW_WORDS * slot as usize];
     let (mut at, mut count) = (0, 0);
     for number in 0..1 << (width - bits) {
-        let word = least + (number << bits);
+        let word = least | u64::checked_shl(number, bits).unwrap_or(0);
         at += order[at..].partition_point(|&slot| first_word(slot) < word);
         while at < order.len() && first_word(order[at]) == word {
             list[count] = order[at];
