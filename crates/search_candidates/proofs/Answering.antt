@@ -16,11 +16,11 @@ use Rattle.index_order.specs.Order.{firstWord, orderOf, isOrder}
 use Rattle.index_order.proofs.OrderLaws.{order-exactly}
 use Rattle.search_equation.specs.Equation.{used, solves}
 use Rattle.search_equation.specs.Solved.{IsClass, IsNone}
-use Rattle.search_filter.specs.declared.inner.Residue.{Residue}
 use Rattle.search_filter.specs.Places.{Ordered}
 use Rattle.search_filter.specs.Refusals.{shortPairs, wrongOrder}
 use Rattle.limits.specs.Limits.{tooManyPairs}
 use Rattle.search_filter.specs.Sweeps.{inClass}
+use Rattle.search_filter.proofs.Running.{classOf}
 use Rattle.search_candidates.specs.declared.CandidatesAnswer.the-variants.{Used, NotUsed, Refused}
 use Rattle.search_candidates.specs.Candidates.{candidates, candidatesRefusal, Collected}
 use Rattle.search_candidates.specs.Steps.{Kept}
@@ -59,10 +59,6 @@ none-refused w n rows order p t list e =
       };
       room = ltb-false _ _ (lists .1);
     }
-
--- ---- the class of the solutions
-abbrev pub classOf : ℕ → ℕ → ℕ → Residue
-classOf w zeros first = record { w = w; zeros = zeros; first = first }
 
 -- ---- what each answer says
 module _ (w n : ℕ) (rows order : List ℕ) (p t : ℕ) (old : List ℕ) where

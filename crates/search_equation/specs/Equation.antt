@@ -1,4 +1,4 @@
--- The equation p × f = t modulo 2^w, and the rule "used". p and t are reduced. Assumes nothing.
+-- The equation p × f = t modulo 2^w, the rule "used", and the running value that meets the solutions. The rule's p and t are reduced. Assumes nothing.
 use mathlib.Core.Bool.{Bool, not, _&&_, cond}
 use Prim.Native.Nat.{ℕ, zero, suc, _+_, _-_, _*_, _%_, _^_}
 use lib.Count.{trailingZeros}

@@ -3,9 +3,8 @@ use mathlib.Core.Path.{_≡_, sym, ap, _∙_, subst}
 use mathlib.Core.Bool.{true, false}
 use mathlib.Core.List.{List}
 use Prim.Native.Nat.{ℕ, _+_, _-_, _*_, _/_, _%_, _^_, _≤_, _<_}
-use native.Mathlib.Nat.{lt-irrefl, lt-of-lt-of-le, zero-mul, mod-eq-of-lt, mod-le, div-add-mod', sub-add-cancel, add-mul, one-mul, mul-le-mul-right, lt-of-mul-lt-mul-right, add-mul-mod-self-right}
+use native.Mathlib.Nat.{lt-irrefl, lt-of-lt-of-le, zero-mul, mod-le, div-add-mod', add-mul, one-mul, mul-le-mul-right, lt-of-mul-lt-mul-right}
 use native.Mathlib.Omega.{arith}
-use lib.Pow.{pow-pos, pow-mono, pow-add}
 use lib.ListN.{getD}
 use borrow.Author.Tests.{eq-eqb, ne-eqb, eqb-true}
 use Rattle.arith.specs.Word.{modulus}
@@ -18,7 +17,7 @@ use Rattle.search_filter.specs.Sweeps.{inClass, Small, IsKey, Sweeping, 
 use Rattle.search_filter.specs.Steps.{Fresh, KeysPassed, KeySettled}
 use Rattle.search_filter.proofs.PlaceLaws.{skips-none, skips-join}
 use Rattle.arrays.proofs.Lists.{is-false}
-use Rattle.search_filter.proofs.Running.{key-class, rest-next, next-value}
+use Rattle.search_filter.proofs.Running.{stepOf, key-class, rest-next, next-value}
 use Rattle.search_filter.proofs.Words.{words-ascend}
 
 -- of two numbers with the same remainder the larger is a step further on
@@ -39,7 +38,7 @@ pub record Going (c : Residue) (n : ℕ) (rows order : List ℕ) (a at key left 
 
 module _ (c : Residue) (small : Small c) where
   abbrev step : ℕ
-  step = 2 ^ (c .w - c .zeros)
+  step = stepOf c
 
   -- ---- the test of one word
   module _ (rows : List ℕ) (s r : ℕ) (is : r ≡ getD rows (16 * s) 0 % modulus (c .w - c .zeros)) where

@@ -1,15 +1,13 @@
 -- The running value over the keys of a class: where it is, its next step, and that it meets the solutions. Assumes nothing.
 use mathlib.Core.Path.{_≡_, refl, sym, ap, _∙_, subst}
-use mathlib.Core.Logic.{_⊎_, inl, inr}
-use mathlib.Core.Bool.{true}
 use Prim.Native.Nat.{ℕ, zero, suc, _+_, _-_, _*_, _%_, _^_, _≤_, _<_}
 use native.Mathlib.Nat.{add-mul, one-mul, mod-lt, mod-eq-of-lt, add-sub-of-le, mul-le-mul-right, add-mul-mod-self-right}
 use native.Mathlib.Decide.{ℕ-discrete}
 use native.Mathlib.Omega.{arith}
 use borrow.Author.Tests.{eqb-true}
 use lib.Pow.{pow-pos, pow-mono, pow-add}
-use Rattle.limits.proofs.Refusals.{le-or-lt, true-not-false}
-use Rattle.search_equation.specs.Equation.{zerosOf, solves, runningValue}
+use Rattle.limits.proofs.Refusals.{true-not-false}
+use Rattle.search_equation.specs.Equation.{zerosOf, runningValue}
 use Rattle.search_equation.specs.Facts.{Met, Solutions}
 use Rattle.search_equation.specs.Solved.{IsClass}
 use Rattle.search_equation.proofs.Zeros.{zeros-of-none}
@@ -18,9 +16,13 @@ use Rattle.search_filter.specs.declared.inner.Residue.{Residue}
 use Rattle.search_filter.specs.Sweeps.{Small, IsKey}
 use Rattle.search_filter.specs.Facts.{Keyed, KeysAreSolutions, OneKeyNoStep}
 
+-- what is added for each further key
+abbrev pub stepOf : Residue → ℕ
+stepOf c = 2 ^ (c .w - c .zeros)
+
 module _ (c : Residue) (small : Small c) where
-  abbrev pub S : ℕ
-  S = 2 ^ (c .w - c .zeros)
+  abbrev S : ℕ
+  S = stepOf c
 
   whole : 2 ^ c .w ≡ 2 ^ c .zeros * S
   whole = ap (λ (k : ℕ). 2 ^ k) (sym (add-sub-of-le (small .within))) ∙ pow-add 2 (c .zeros) (c .w - c .zeros)
@@ -90,7 +92,7 @@ module _ (c : Residue) (small : Small c) where
           go (suc z) e = omega (arith, small .width)
 
 -- ---- the keys are the solutions
-abbrev classOf : ℕ → ℕ → ℕ → Residue
+abbrev pub classOf : ℕ → ℕ → ℕ → Residue
 classOf w zeros first = record { w = w; zeros = zeros; first = first }
 
 -- the class that `solve` answers

@@ -1,4 +1,4 @@
--- What holds of the keys that a sweep looks for, as types; proofs/Keys has their proofs. Assumes nothing.
+-- What holds of the keys that a sweep looks for, as types; proofs/Running has their proofs. Assumes nothing.
 use mathlib.Core.Path.{_≡_}
 use mathlib.Core.Bool.{true}
 use Prim.Native.Nat.{ℕ, _^_, _≤_, _<_}

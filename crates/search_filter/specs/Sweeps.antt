@@ -22,7 +22,7 @@ pub record Small (c : Residue) : Type 0 where
   pub few : c .zeros ≤ 8
   pub below : c .first < 2 ^ (c .w - c .zeros)
 
--- the keys are the first 2^zeros values of the running value from `first` on: where `left` of them are still to come, `key` included, `key` is number 2^zeros - left
+-- the keys are the first 2^zeros values of the running value from `first` on: where `left` of them are still to come, `key` included, `key` is number 2^zeros - left, from 0 on
 pub record IsKey (c : Residue) (key left : ℕ) : Type 0 where
   pub some : 0 < left
   pub most : left ≤ 2 ^ c .zeros

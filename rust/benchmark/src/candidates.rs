@@ -64,7 +64,7 @@ fn note(equation: &Equation<'_>, listed: usize) -> String {
     }
 }
 
-/// What both sides are handed: our arrays of some pairs, the Rust's buckets of the same pairs, and p and t.
+/// What the sides are handed: our arrays of some pairs, the Rust's buckets of the same pairs, and p and t.
 #[derive(Clone, Copy)]
 struct Equation<'a> {
     width: u32,
@@ -92,7 +92,7 @@ impl<'a> Equation<'a> {
         self.pairs.count / 2
     }
 
-    /// The solutions below 2^w, where p isn't 0 and there is one.
+    /// How many solutions there are below 2^w, where p isn't 0 and there is one.
     fn keys(&self) -> u64 {
         1 << self.p.trailing_zeros()
     }
@@ -102,7 +102,7 @@ impl<'a> Equation<'a> {
         vec![0; self.pairs.count]
     }
 
-    /// What refusals 2, 4, 5, 7 and 8 test. The Rust's own list grows.
+    /// What refusals 2, 4, 5, 7 and 8 test, but for the lent list, which is made as long as there are pairs.
     fn is_fit(&self) -> bool {
         let Equation { width, pairs, .. } = self;
         (1..=64).contains(width)
@@ -149,7 +149,12 @@ fn list_solutions(equation: &Equation<'_>, least: u64, bits: u32, list: &mut [u3
     let (mut at, mut count) = (0, 0);
     for number in 0..1 << (width - bits) {
         let word = least | u64::checked_shl(number, bits).unwrap_or(0);
-        at += order[at..].partition_point(|&slot| first_word(slot) < word);
+        if at == order.len() {
+            break;
+        }
+        if first_word(order[at]) < word {
+            at += order[at..].partition_point(|&slot| first_word(slot) < word);
+        }
         while at < order.len() && first_word(order[at]) == word {
             list[count] = order[at];
             (at, count) = (at + 1, count + 1);

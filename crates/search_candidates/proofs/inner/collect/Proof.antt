@@ -1,6 +1,5 @@
 -- `search_candidates::inner::collect` meets its contract: at each turn the list holds what is kept of the places before the sweep's. Assumes nothing.
 use Prim.Native.Nat.{_-_}
-use borrow.Author.Needs.{needs}
 use native.Mathlib.Omega.{arith}
 use Rattle.search_candidates.proofs.Filling.{Filling, no-samples, filling-start, filling-more, filling-end}
 use Rattle.search_candidates.proofs.inner.collect.Statement.{statement}

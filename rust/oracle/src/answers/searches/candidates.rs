@@ -436,7 +436,7 @@ fn stepped(width: u32, zeros: u32, p: u64, least: u64) -> Input {
         |number: &u128| *number < KEYS_SHOWN || count - KEYS_SHOWN.min(count) <= *number;
     let keys: Vec<u64> = (0..count).filter(near_ends).filter_map(value).collect();
     let beside = keys.iter().step_by(5).flat_map(|key| [key ^ 1, key ^ 2]);
-    let wrong = [Some(least ^ 1 << zeros), value(count)];
+    let wrong = [least.checked_add(1 << zeros), value(count)];
     let words = beside
         .chain(wrong.into_iter().flatten())
         .chain(keys.clone());
