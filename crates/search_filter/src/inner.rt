@@ -182,7 +182,6 @@ fn settle_keys(
     let mut key = s.key;
     let mut left = s.left;
     while left > 0 {
-        at = lower(rows, order, n, samples, m, at, key);
         if at == n {
             return Sweep {
                 at: n,
@@ -190,18 +189,24 @@ fn settle_keys(
                 left: 0,
             };
         }
-        if word_at(rows, order, n, at) == key {
-            return Sweep { at, key, left };
+        // nothing is looked up as long as the word here is beyond the key
+        let word = word_at(rows, order, n, at);
+        if word < key {
+            at = lower(rows, order, n, samples, m, at, key);
+        } else {
+            if word == key {
+                return Sweep { at, key, left };
+            }
+            if left == 1 {
+                return Sweep {
+                    at: at,
+                    key: key,
+                    left: 0,
+                };
+            }
+            key = next_key(class, key, left);
+            left -= 1;
         }
-        if left == 1 {
-            return Sweep {
-                at: at,
-                key: key,
-                left: 0,
-            };
-        }
-        key = next_key(class, key, left);
-        left -= 1;
     }
     Sweep {
         at: at,
