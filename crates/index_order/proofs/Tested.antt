@@ -5,6 +5,7 @@ use mathlib.Core.Logic.{inl, inr}
 use mathlib.Core.List.{List}
 use Prim.Native.Nat.{ℕ, zero, suc, _+_, _≤_, _<_}
 use native.Mathlib.Nat.{eq-or-lt-of-le}
+use native.Mathlib.Decide.{decLt}
 use native.Mathlib.Numerals.{add-one}
 use native.Mathlib.Omega.{arith}
 use lib.ListN.{length, getD, take}
@@ -22,6 +23,15 @@ pub record Passed (rows l : List ℕ) (n word least i : ℕ) : Type 0 where
   pub start : i ≡ 0 → (word ≡ 0) × (least ≡ 0)
 
 module _ (rows l : List ℕ) (n : ℕ) where
+  pub passed-none : Passed rows l n 0 0 0
+  passed-none = record {
+    low = λ k h. absurd (omega arith);
+    ascends = λ k h. absurd (omega arith);
+    last = λ k e. absurd (omega arith);
+    past = λ k e. absurd (omega arith);
+    start = λ _. (refl, refl);
+  }
+
   module _ (word least i : ℕ) (p : Passed rows l n word least i) where
     pub passed-more : getD l i 0 < n → word ≤ firstWord rows (getD l i 0)
         → (firstWord rows (getD l i 0) ≡ word → least ≤ getD l i 0)
@@ -80,6 +90,12 @@ module _ (rows l : List ℕ) (n : ℕ) where
               let m = p .past k (omega arith) in
               let b = ordered e k (omega arith) .slot (omega arith) in
               omega arith
+
+      pub fails-after : firstWord rows (getD l i 0) ≤ word → getD l i 0 < least → isOrder n rows (take n l) ≡ true → ⊥
+      fails-after up down e = elim (decLt (firstWord rows (getD l i 0)) word) [
+        | yes h ↦ fails-word h e
+        | no h ↦ fails-slot (omega (arith, up, h)) down e
+      ]
 
   pub passed-all : (word least i : ℕ) → n ≤ length l → i ≡ n → Passed rows l n word least i → isOrder n rows (take n l) ≡ true
   passed-all word least i long e p =

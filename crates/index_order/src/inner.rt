@@ -9,26 +9,33 @@ pub fn is_order(rows: &[u64], n: usize, order: &[u32]) -> bool
     requires { ⌜ (16 * n ≤ length (now rows)) × (n ≤ length (now order)) ⌝ }
     ensures { λ r. ⌜ r ≡ isOrder n (now (rows .entry)) (take n (now (order .entry))) ⌝ }
 {
-    let mut word: u64 = 0;
-    let mut least: usize = 0;
-    let mut i: usize = 0;
+    if n == 0 {
+        return true;
+    }
+    let mut last = order[0] as usize;
+    if last >= n {
+        return false;
+    }
+    let mut word = rows[row_gates::ROW_WORDS * last];
+    let mut i: usize = 1;
     while i < n {
         let s = order[i] as usize;
         i += 1;
         if s >= n {
             return false;
         }
-        let w = rows[row_gates::ROW_WORDS * s];
-        if w < word {
+        // only a greater word may follow, unless the slot is a later one. No branch: a wrong guess would wait for the row
+        let more = std::num::wrapping_add_u64(word, 1);
+        let least = if s <= last { more } else { word };
+        if least < word {
             return false;
         }
-        // by how much the word must be greater: no branch, since a wrong guess would wait for the row
-        let step: u64 = if s < least { 1 } else { 0 };
-        if w - word < step {
+        let w = rows[row_gates::ROW_WORDS * s];
+        if w < least {
             return false;
         }
         word = w;
-        least = s + 1;
+        last = s;
     }
     true
 }
