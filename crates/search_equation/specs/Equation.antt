@@ -16,7 +16,7 @@ used p t = not (cond (eqb p 0) (eqb t 0) (ltb 8 (zerosOf p) && eqb (t % 2 ^ zero
 unfoldable pub solves : ℕ → ℕ → ℕ → ℕ → Bool
 solves w p t f = eqb (p * f % 2 ^ w) (t % 2 ^ w)
 
--- 01, Candidates: 2^z divides t, so t has as many trailing zeros. Otherwise no f solves
+-- 01, Candidates: 2^z divides t, so t has at least as many trailing zeros. Otherwise no f solves
 unfoldable pub solvable : ℕ → ℕ → Bool
 solvable p t = leb (zerosOf p) (zerosOf t)
 

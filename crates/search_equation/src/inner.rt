@@ -33,7 +33,7 @@ pub fn is_used(p: u64, t: u64) -> bool
     true
 }
 
-// Whether t has as many trailing zeros as p: otherwise p × f = t has no solution.
+// Whether t has at least as many trailing zeros as p: otherwise p × f = t has no solution.
 pub fn is_solvable(p: u64, t: u64) -> bool
     ensures { λ r. ⌜ r ≡ solvable p t ⌝ }
 {

@@ -129,7 +129,7 @@ module _ (c : Residue) (small : Small c) where
             }
 
         -- no place is left
-        pub going-end : at ≡ n → KeySettled c n rows order a (record { at = n; key = key; left = 0 })
+        pub going-end : at ≡ n → KeySettled c n rows order a (record { at = at; key = key; left = 0 })
         going-end e = record {
           sweeping = record {
             within = omega arith;

@@ -149,11 +149,8 @@ fn first_sweep(class: Residue) -> Sweep
     ensures { λ r. ⌜ Fresh class r ⌝ }
 {
     let left: u64 = 1 << class.zeros;
-    Sweep {
-        at: 0,
-        key: class.first,
-        left: left,
-    }
+    let key = class.first;
+    Sweep { at: 0, key, left }
 }
 
 // The next value: 2^(w - zeros) more. After the last key there is no step: at width 64 with no zeros it would be 2^64.
@@ -183,11 +180,7 @@ fn settle_keys(
     let mut left = s.left;
     while left > 0 {
         if at == n {
-            return Sweep {
-                at: n,
-                key: key,
-                left: 0,
-            };
+            return Sweep { at, key, left: 0 };
         }
         // nothing is looked up as long as the word here is beyond the key
         let word = word_at(rows, order, n, at);
@@ -198,21 +191,13 @@ fn settle_keys(
                 return Sweep { at, key, left };
             }
             if left == 1 {
-                return Sweep {
-                    at: at,
-                    key: key,
-                    left: 0,
-                };
+                return Sweep { at, key, left: 0 };
             }
             key = next_key(class, key, left);
             left -= 1;
         }
     }
-    Sweep {
-        at: at,
-        key: key,
-        left: 0,
-    }
+    Sweep { at, key, left: 0 }
 }
 
 // The first place from `at` on whose first word is of the class, one by one.
