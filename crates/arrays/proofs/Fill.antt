@@ -1,12 +1,13 @@
 -- A loop that stores element after element: what its invariant needs, whatever is stored; and lists joined place by place. Assumes nothing.
 use mathlib.Core.Path.{_≡_, refl, sym, ap, _∙_, subst}
-use mathlib.Core.List.{List, [], _∷_, zipWith}
+use mathlib.Core.List.{List, [], _∷_, _++_, zipWith}
 use Prim.Native.Nat.{ℕ, zero, suc, _+_, _≤_, _<_}
 use native.Mathlib.Nat.{lt-irrefl}
 use native.Mathlib.Omega.{arith}
 use borrow.Author.Count.{below-more}
-use lib.ListN.{length, getD, set}
-use lib.Seq.{getD-set-same, getD-set-other, ext-getD}
+use lib.ListN.{length, getD, set, drop, length-append, length-drop}
+use lib.Seq.{getD-set-same, getD-set-other, ext-getD, set-at, append-snoc, drop-cons}
+use Rattle.arrays.specs.Lists.{laid}
 
 -- the elements below i are those of f
 abbrev pub Filled : (f : ℕ → ℕ) (l : List ℕ) (i : ℕ) → Type 0
@@ -22,6 +23,20 @@ filled-more f l i v h below e =
 -- all are stored
 pub filled-all : (f : ℕ → ℕ) (l r : List ℕ) (i : ℕ) → length l ≡ length r → length l ≤ i → Filled f l i → Filled f r (length r) → l ≡ r
 filled-all f l r i e h below right = ext-getD 0 l r e (λ k lt. below k (omega arith) ∙ sym (right k (omega arith)))
+
+-- what is laid keeps the array's length
+pub length-laid : (xs old : List ℕ) → length xs ≤ length old → length (laid xs old) ≡ length old
+length-laid xs old h = length-append xs (drop (length xs) old) ∙ omega (arith, length-drop (length xs) old)
+
+-- one element more, in the place after those laid
+pub laid-more : (xs old : List ℕ) (i v : ℕ) → length xs ≡ i → i < length old → set (laid xs old) i v ≡ laid (xs ++ (v ∷ [])) old
+laid-more xs old i v e h =
+    let next : length (xs ++ (v ∷ [])) ≡ suc i = length-append xs (v ∷ []) ∙ omega arith in
+    ap (λ (n : ℕ). set (xs ++ drop n old) i v) e
+    ∙ ap (λ (l : List ℕ). set (xs ++ l) i v) (drop-cons old i 0 h)
+    ∙ set-at xs (getD old i 0) (drop (suc i) old) v i e
+    ∙ sym (append-snoc xs v (drop (suc i) old))
+    ∙ ap (λ (n : ℕ). (xs ++ (v ∷ [])) ++ drop n old) (sym next)
 
 -- three elements stored, one after the other
 pub three-stored : (l : List ℕ) (a b c : ℕ) → length l ≡ 3 → set (set (set l 0 a) 1 b) 2 c ≡ a ∷ (b ∷ (c ∷ []))

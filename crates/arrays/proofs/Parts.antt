@@ -3,12 +3,12 @@ use mathlib.Core.Path.{_≡_, sym, ap, _∙_}
 use mathlib.Core.Logic.{_⊎_, inl, inr}
 use mathlib.Core.List.{List, [], _∷_, _++_, append-assoc, append-nil}
 use Prim.Native.Nat.{ℕ, zero, suc, _+_, _-_, _*_, _≤_, _<_}
-use native.Mathlib.Nat.{mul-le-mul-left, mul-suc, mul-zero, zero-add, add-comm, le-add-right}
+use native.Mathlib.Nat.{mul-le-mul-left, mul-suc, mul-zero, mul-comm, mul-assoc, mul-add, zero-add, suc-add, add-comm, le-add-right}
 use native.Mathlib.Numerals.{add-one}
 use native.Mathlib.Omega.{arith}
 use borrow.Rule.Slice.PartMut.{putMid, post-is}
 use lib.ListN.{length, getD, set, take, drop, length-take, length-drop, length-append}
-use lib.Seq.{getD-take, getD-drop, take-all, take-at, drop-at, length-take-le, drop-drop, take-append-add, drop-append-add, take-add, take-take, set-split}
+use lib.Seq.{getD-take, getD-drop, take-all, take-at, drop-at, length-take-le, drop-drop, take-append-add, drop-append-add, take-add, take-take, take-nil, set-split}
 use Rattle.arrays.specs.Parts.{partAt, putPart, encode}
 
 -- ---- one part
@@ -16,9 +16,30 @@ pub length-part : (s : ℕ) (l : List ℕ) (k : ℕ) → s * k + s ≤ length l 
 unfolding partAt
 length-part s l k h = simp (length-take, length-drop) (omega arith)
 
+-- a part before the n-th ends within n parts
+pub part-within : (s k n : ℕ) → k < n → s * k + s ≤ s * n
+part-within s k n h = rw mul-suc at (mul-le-mul-left {m = suc k} {n = n} s (omega arith))
+
 pub getD-part : (s : ℕ) (l : List ℕ) (k j : ℕ) → j < s → getD (partAt s l k) j 0 ≡ getD l (s * k + j) 0
 unfolding partAt
 getD-part s l k j h = getD-take s (drop (s * k) l) j 0 h ∙ getD-drop (s * k) l j 0
+
+-- part j of the t parts that lie in a part of t times their size
+drop-take : (a b : ℕ) (l : List ℕ) → drop a (take (a + b) l) ≡ take b (drop a l)
+drop-take zero b l = ap (λ (n : ℕ). take n l) (zero-add b)
+drop-take (suc a) b [] = ap (drop (suc a)) (take-nil (suc a + b)) ∙ sym (take-nil b)
+drop-take (suc a) b (x ∷ l) = ap (λ (n : ℕ). drop (suc a) (take n (x ∷ l))) (suc-add a b) ∙ drop-take a b l
+
+pub part-part : (s t : ℕ) (l : List ℕ) (k j : ℕ) → j < t → partAt s (partAt (t * s) l k) j ≡ partAt s l (t * k + j)
+unfolding partAt
+part-part s t l k j h =
+    let fits = part-within s j t h in
+    let end : t * s ≡ s * j + (t * s - s * j) = omega (arith, mul-comm s t) in
+    let at : t * s * k + s * j ≡ s * (t * k + j) = sym (mul-add s (t * k) j ∙ ap (λ (n : ℕ). n + s * j) (sym (mul-assoc s t k) ∙ ap (λ (n : ℕ). n * k) (mul-comm s t))) in
+    ap (λ (n : ℕ). take s (drop (s * j) (take n (drop (t * s * k) l)))) end
+    ∙ ap (take s) (drop-take (s * j) (t * s - s * j) (drop (t * s * k) l))
+    ∙ take-take s (t * s - s * j) (drop (s * j) (drop (t * s * k) l)) (omega (arith, mul-comm s t))
+    ∙ ap (take s) (drop-drop (s * j) (t * s * k) l ∙ ap (λ (n : ℕ). drop n l) at)
 
 -- a list that is one part
 pub part-whole : (s : ℕ) (l : List ℕ) → length l ≡ s → partAt s l 0 ≡ l
@@ -78,7 +99,7 @@ part-back s a t n h = let e : n + (s * t - n) ≡ s * t = omega arith in rw (dro
 -- lists that begin alike have the same first parts
 pub part-below : (s : ℕ) (a b : List ℕ) (n : ℕ) → s * n ≤ length a → s * n ≤ length b → take (s * n) a ≡ take (s * n) b → (t : ℕ) → t < n → partAt s a t ≡ partAt s b t
 part-below s a b n la lb e t below =
-    let h : s * t + s ≤ s * n = rw mul-suc at (mul-le-mul-left {m = suc t} {n = n} s (omega arith)) in
+    let h = part-within s t n below in
     part-front s a t (s * n) h la ∙ ap (λ (z : List ℕ). drop (s * t) (take (s * t + s) z)) e ∙ sym (part-front s b t (s * n) h lb)
 
 -- every part but the one just put
@@ -86,7 +107,7 @@ pub part-put-other : (s : ℕ) (l : List ℕ) (k : ℕ) (xs : List ℕ) → s * 
 part-put-other s l k xs fits long t (inl h) =
     part-below s (putPart s l k xs) l k (rw (length-put s l k xs fits long) (omega arith)) (omega arith) (take-put s l k xs fits long) t h
 part-put-other s l k xs fits long t (inr h) =
-    let m : s * k + s ≤ s * t = rw mul-suc at (mul-le-mul-left {m = suc k} {n = t} s (omega arith)) in
+    let m = part-within s k t h in
     part-back s (putPart s l k xs) t (s * k + s) m
     ∙ ap (λ (z : List ℕ). take s (drop (s * t - (s * k + s)) z)) (drop-put s l k xs fits long)
     ∙ sym (part-back s l t (s * k + s) m)

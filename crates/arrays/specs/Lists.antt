@@ -2,15 +2,19 @@
 use mathlib.Core.Path.{_≡_}
 use mathlib.Core.Bool.{Bool, cond}
 use mathlib.Core.Logic.{_⊎_}
-use mathlib.Core.List.{List, [], _∷_}
+use mathlib.Core.List.{List, [], _∷_, _++_}
 use mathlib.Core.Option.{Option, none, some, orElse}
 use Prim.Native.Nat.{ℕ, zero, suc, _<_}
-use lib.ListN.{length, getD}
+use lib.ListN.{length, getD, drop}
 
 -- i, i + 1, .., n of them
 unfoldable pub countUp : ℕ → ℕ → List ℕ
 countUp i zero = []
 countUp i (suc n) = i ∷ countUp (suc i) n
+
+-- 01, From heap ..: places beyond the count in a lent output stay unchanged. What an array holds from its start on, and after it what it held
+abbrev pub laid : List ℕ → List ℕ → List ℕ
+laid xs old = xs ++ drop (length xs) old
 
 -- x stands in the list
 abbrev pub In : {A : Type 0} → A → List A → Type 0

@@ -66,7 +66,7 @@ fn is_known(t: Token, nv: u32) -> bool
 }
 
 // How many values a token takes.
-fn takes(t: Token) -> usize
+pub fn takes(t: Token) -> usize
     ensures { λ r. ⌜ r ≡ arity t ⌝ }
 {
     match t {

@@ -5,8 +5,10 @@ use mathlib.Core.List.{List, [], _∷_, _++_, map, map-append, append-nil}
 use Prim.Native.Nat.{ℕ, zero, suc, _+_, _-_, _%_, _^_, _≤_, _<_}
 use native.Mathlib.Nat.{mod-lt, pos-of-ne-zero}
 use native.Mathlib.Omega.{arith}
-use lib.ListN.{length, set, drop, getD, length-map, length-append}
-use lib.Seq.{set-at, append-snoc, drop-cons}
+use lib.ListN.{length, set, drop, length-map, length-append}
+use lib.Seq.{append-snoc}
+use Rattle.arrays.specs.Lists.{laid}
+use Rattle.arrays.proofs.Fill.{laid-more}
 use Rattle.limits.specs.Refusal.{unlessRefused}
 use Rattle.limits.proofs.Refusals.{unless-refused}
 use Rattle.probe_points.specs.declared.Draw.{Draw}
@@ -14,7 +16,7 @@ use Rattle.probe_points.specs.Points.{nextState, drawn}
 use Rattle.expr.specs.declared.Token.{Token}
 use Rattle.expr.specs.Formula.{tokenOf, arity, opcodeOf, operandOf, tokens}
 use Rattle.expr.proofs.Tokens.{tokens-back}
-use Rattle.load_draw.specs.Draw.{drawnWord, takes, mayPick, pickedBy, tokenFrom, stateFrom, Drawn, onto, restFrom, formulaFrom, drawnOr, laid, laidOr}
+use Rattle.load_draw.specs.Draw.{drawnWord, takes, mayPick, pickedBy, tokenFrom, stateFrom, Drawn, onto, restFrom, formulaFrom, drawnOr, laidOr}
 use Rattle.load_draw.proofs.Picking.{picked-may, picked-below, may-takes, may-rest, can-most}
 
 -- ---- one token
@@ -75,17 +77,7 @@ operand-other nv w (suc (suc (suc (suc (suc (suc (suc (suc zero)))))))) s h = re
 operand-other nv w (suc (suc (suc (suc (suc (suc (suc (suc (suc o))))))))) s h = refl
 
 -- ---- what is laid
--- one element more, in the place after those laid
-pub laid-more : (xs old : List ℕ) (i v : ℕ) → length xs ≡ i → i < length old → set (laid xs old) i v ≡ laid (xs ++ (v ∷ [])) old
-laid-more xs old i v e h =
-    let next : length (xs ++ (v ∷ [])) ≡ suc i = length-append xs (v ∷ []) ∙ omega arith in
-    ap (λ (n : ℕ). set (xs ++ drop n old) i v) e
-    ∙ ap (λ (l : List ℕ). set (xs ++ l) i v) (drop-cons old i 0 h)
-    ∙ set-at xs (getD old i 0) (drop (suc i) old) v i e
-    ∙ sym (append-snoc xs v (drop (suc i) old))
-    ∙ ap (λ (n : ℕ). (xs ++ (v ∷ [])) ++ drop n old) (sym next)
-
--- the same of the tokens' opcodes or operands
+-- one token more: its opcode or operand, in the place after those laid
 map-laid-more : (part : Token → ℕ) (done : List Token) (t : Token) (old l : List ℕ) (i v : ℕ) → length done ≡ i → i < length old → v ≡ part t → l ≡ laid (map part done) old
     → set l i v ≡ laid (map part (done ++ (t ∷ []))) old
 map-laid-more part done t old l i v e h p q =

@@ -1,10 +1,10 @@
 -- One formula of a test load, drawn with splitmix64. Assumes nothing.
 use mathlib.Core.Bool.{Bool, not, _&&_}
-use mathlib.Core.List.{List, [], _∷_, _++_, map}
+use mathlib.Core.List.{List, [], _∷_, map}
 use Prim.Native.Nat.{ℕ, zero, suc, _+_, _-_, _%_, _^_}
 use lib.Dec.{leb}
-use lib.ListN.{length, getD, drop}
-use Rattle.arrays.specs.Lists.{countUp, keep}
+use lib.ListN.{length, getD}
+use Rattle.arrays.specs.Lists.{countUp, keep, laid}
 use Rattle.limits.specs.Refusal.{refuse, unlessRefused, outsideOf, badCount, badWidth}
 use Rattle.probe_points.specs.Points.{nextState, wordOf}
 use Rattle.expr.specs.declared.Token.{Token}
@@ -106,10 +106,6 @@ drawRefusal nv w limit ops operands =
 -- the answer, with d the formula: refused, no token and the state as it was
 abbrev pub drawnOr : ℕ → ℕ → Drawn → DrawnFormula
 drawnOr number s d = record { refusal = number; count = unlessRefused number (length (d .form)) 0; state = unlessRefused number (d .state) s }
-
--- 01, From heap ..: places beyond the count in a lent output stay unchanged
-abbrev pub laid : List ℕ → List ℕ → List ℕ
-laid xs old = xs ++ drop (length xs) old
 
 -- what stands in an array of opcodes or of operands: refused, what it held
 abbrev pub laidOr : ℕ → (Token → ℕ) → Drawn → List ℕ → List ℕ

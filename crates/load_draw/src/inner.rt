@@ -6,7 +6,8 @@ ghost use mathlib.Core.List.{map};
 ghost use Prim.Native.Nat.{_+_, _≤_, _<_};
 ghost use lib.ListN.{length, set};
 ghost use Rattle.expr.specs.Formula.{opcodeOf, operandOf};
-ghost use Rattle.load_draw.specs.Draw.{takes, pickedBy, tokenFrom, stateFrom, restFrom, formulaFrom, badLimit, drawRefusal, drawnOr, laid};
+ghost use Rattle.arrays.specs.Lists.{laid};
+ghost use Rattle.load_draw.specs.Draw.{takes, pickedBy, tokenFrom, stateFrom, restFrom, formulaFrom, badLimit, drawRefusal, drawnOr};
 ghost use Rattle.load_draw.specs.Steps.{Ready};
 
 // Whether a token limit is not 1 to 64: refusal 6.

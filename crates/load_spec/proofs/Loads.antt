@@ -4,21 +4,17 @@ use mathlib.Core.List.{List, _∷_, map}
 use Prim.Native.Nat.{ℕ, zero, suc, _≤_}
 use native.Mathlib.Nat.{suc-add, zero-add}
 use native.Mathlib.Omega.{arith}
-use lib.ListN.{length, drop, length-map, length-append, length-drop}
+use lib.ListN.{length, length-map}
 use Rattle.expr.specs.declared.Token.{Token}
 use Rattle.expr.specs.Formula.{opcodeOf, operandOf, tokens}
-use Rattle.load_draw.specs.Draw.{Drawn, formulaFrom, loadFrom, loadState, drawRefusal, drawnOr, laid, laidOr, Called, called}
+use Rattle.arrays.specs.Lists.{laid}
+use Rattle.arrays.proofs.Fill.{length-laid}
+use Rattle.load_draw.specs.Draw.{Drawn, formulaFrom, loadFrom, loadState, drawRefusal, drawnOr, laidOr, Called, called}
 use Rattle.load_draw.proofs.Drawing.{laid-reads, form-most}
 use Rattle.load_draw.proofs.Refusing.{ready, ready-none}
 use Rattle.load_spec.specs.Loads.{Loaded, before, callsFrom, LoadIsCalls, SameLoad, StateRunsOn, FirstOfLonger}
 
 -- ---- a load is calls
--- what is laid keeps the array's length
-laid-length : (part : Token → ℕ) (ts : List Token) (old : List ℕ) → length ts ≤ length old → length (laid (map part ts) old) ≡ length old
-laid-length part ts old h =
-    length-append (map part ts) (drop (length (map part ts)) old)
-    ∙ omega (arith, length-map ts part, length-drop (length (map part ts)) old)
-
 module _ (nv w limit s : ℕ) (ops operands : List ℕ) (none : drawRefusal nv w limit ops operands ≡ 0) where
   abbrev d : Drawn
   d = formulaFrom nv w limit s
@@ -42,8 +38,8 @@ module _ (nv w limit s : ℕ) (ops operands : List ℕ) (none : drawRefusal nv w
         narrow = g .narrow;
         least = g .least;
         most = g .most;
-        ops-fit = omega (arith, laid-length opcodeOf (d .form) ops (omega (arith, few, g .ops-fit)), g .ops-fit);
-        operands-fit = omega (arith, laid-length operandOf (d .form) operands (omega (arith, few, g .operands-fit)), g .operands-fit);
+        ops-fit = omega (arith, length-laid (map opcodeOf (d .form)) ops (omega (arith, few, g .ops-fit, length-map (d .form) opcodeOf)), g .ops-fit);
+        operands-fit = omega (arith, length-laid (map operandOf (d .form)) operands (omega (arith, few, g .operands-fit, length-map (d .form) operandOf)), g .operands-fit);
       })
 
 pub load-is-calls : LoadIsCalls

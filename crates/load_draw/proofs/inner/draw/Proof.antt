@@ -5,7 +5,8 @@ use Prim.Native.Nat.{_<_}
 use native.Mathlib.Nat.{mod-lt}
 use lib.ListN.{length}
 use Rattle.expr.specs.Formula.{opcodeOf, operandOf}
-use Rattle.load_draw.specs.Draw.{Drawn, laid}
+use Rattle.arrays.specs.Lists.{laid}
+use Rattle.load_draw.specs.Draw.{Drawn}
 use Rattle.load_draw.proofs.Drawing.{rest-length, whole, drew}
 use Rattle.load_draw.proofs.Refusing.{ready-less}
 use native.Mathlib.Omega.{arith}

@@ -1,0 +1,2 @@
+-- What the contracts of this crate, and the definitions above it, cite.
+pub mod Rows

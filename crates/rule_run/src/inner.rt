@@ -1,0 +1,257 @@
+// The steps of a run, and its refusals.
+use crate::MAX_WINDOW;
+use row_gates::ROW_WORDS;
+ghost use mathlib.Core.Path.{_≡_};
+ghost use mathlib.Core.Bool.{cond};
+ghost use mathlib.Core.List.{List};
+ghost use Prim.Native.Nat.{ℕ, _+_, _-_, _*_, _%_, _^_, _≤_, _<_};
+ghost use lib.Dec.{leb};
+ghost use lib.ListN.{length, getD};
+ghost use Rattle.expr.specs.Formula.{tokens};
+ghost use Rattle.rule_run.specs.Window.{nonzero, markAt, sumBelow, bitOf, badWindow, tooFew, runRefusal};
+ghost use Rattle.rule_run.specs.Steps.{Ready, Fed};
+
+// Whether W is not 1 to 64, or M not 1 to W: refusal 10.
+pub fn bad_window(m: u32, window: u32) -> bool
+    ensures { λ r. ⌜ r ≡ badWindow m window ⌝ }
+{
+    if limits::inner::outside(window as u64, 1, MAX_WINDOW as u64) {
+        return true;
+    }
+    limits::inner::outside(m as u64, 1, window as u64)
+}
+
+// Whether there are fewer than n records, of nv words each, or fewer than n places for answers.
+fn too_few(answers: &[u8], nv: usize, n: usize, records: &[u64]) -> bool
+    requires { ⌜ 1 ≤ nv ⌝ }
+    ensures { λ r. ⌜ r ≡ tooFew nv n (now (records .entry)) (now (answers .entry)) ⌝ }
+{
+    if records.len() / nv < n {
+        return true;
+    }
+    answers.len() < n
+}
+
+// The number of a call's refusal; 0 for none.
+pub fn run_refusal(
+    answers: &[u8],
+    nv: u32,
+    w: u32,
+    count: usize,
+    ops: &[u8],
+    operands: &[u64],
+    m: u32,
+    window: u32,
+    n: usize,
+    records: &[u64],
+) -> u32
+    ensures { λ r. ⌜ r ≡ runRefusal nv w count (now (ops .entry)) (now (operands .entry)) m window n (now (records .entry)) (now (answers .entry)) ⌝ }
+{
+    if limits::inner::bad_count(nv) {
+        return 1;
+    }
+    if limits::inner::bad_width(w) {
+        return 2;
+    }
+    if expr::inner::too_short(count, ops, operands) {
+        return 4;
+    }
+    if too_few(answers, nv as usize, n, records) {
+        return 4;
+    }
+    if !expr::is_formula(nv, count, ops, operands) {
+        return 6;
+    }
+    if bad_window(m, window) {
+        return 10;
+    }
+    0
+}
+
+// 1 where a value isn't 0.
+fn mark_of(value: u64) -> u64
+    ensures { λ r. ⌜ r ≡ nonzero value ⌝ }
+{
+    if value != 0 { 1 } else { 0 }
+}
+
+// The answer to a record with this mark: the W - 1 records before it are the lowest bits of `past`.
+fn answer_of(past: u64, mark: u64, m: u32, window: u32) -> u8
+    requires { ⌜ (1 ≤ window) × ((window ≤ 64) × (mark ≤ 1)) ⌝ }
+    ensures { λ r. ⌜ r ≡ cond (leb m (sumBelow (window - 1) (bitOf past) + mark)) 1 0 ⌝ }
+{
+    let before = u64::count_ones(arith::reduce(past, window - 1));
+    if m as u64 <= before as u64 + mark {
+        1
+    } else {
+        0
+    }
+}
+
+// The state with one mark more; the oldest of 64 is gone.
+fn with_mark(past: u64, mark: u64) -> u64
+    ensures { λ r. ⌜ r ≡ (past + past + mark) % 2 ^ 64 ⌝ }
+{
+    std::num::wrapping_add_u64(std::num::wrapping_add_u64(past, past), mark)
+}
+
+// Answers the record at a place by the formula's value there; the state after it.
+fn feed(answers: &mut [u8], at: usize, value: u64, m: u32, window: u32, past: u64) -> u64
+    requires { ⌜ (at < length (now answers)) × ((1 ≤ window) × (window ≤ 64)) ⌝ }
+    ensures { λ r. ⌜ ((mark : ℕ → ℕ) (s : ℕ) (old : List ℕ) → mark at ≡ nonzero value → Fed mark s m window old at (now (answers .entry)) past → Fed mark s m window old (at + 1) (now (answers .exit)) r) ⌝ }
+{
+    let mark = mark_of(value);
+    answers[at] = answer_of(past, mark, m, window);
+    with_mark(past, mark)
+}
+
+// The same of sixteen records.
+fn feed_row(answers: &mut [u8], at: usize, row: [u64; 16], m: u32, window: u32, past: u64) -> u64
+    requires { ⌜ (at + 16 ≤ length (now answers)) × ((1 ≤ window) × (window ≤ 64)) ⌝ }
+    ensures { λ r. ⌜ ((mark : ℕ → ℕ) (s : ℕ) (old : List ℕ) → ((j : ℕ) → j < 16 → mark (at + j) ≡ nonzero (getD row j 0)) → Fed mark s m window old at (now (answers .entry)) past → Fed mark s m window old (at + 16) (now (answers .exit)) r) ⌝ }
+{
+    let mut bits = past;
+    let mut j: usize = 0;
+    while j < ROW_WORDS {
+        bits = feed(answers, at + j, row[j], m, window, bits);
+        j += 1;
+    }
+    bits
+}
+
+// The records from `at` on, one by one.
+fn run_rest(
+    answers: &mut [u8],
+    nv: usize,
+    w: u32,
+    count: usize,
+    ops: &[u8],
+    operands: &[u64],
+    m: u32,
+    window: u32,
+    past: u64,
+    at: usize,
+    n: usize,
+    records: &[u64],
+) -> u64
+    requires { ⌜ Ready nv w count (now ops) (now operands) m window n (now records) × ((at ≤ n) × (n ≤ length (now answers))) ⌝ }
+    ensures { λ r. ⌜ ((s : ℕ) (old : List ℕ) → Fed (markAt nv w (tokens count (now (ops .entry)) (now (operands .entry))) (now (records .entry))) s m window old at (now (answers .entry)) past → Fed (markAt nv w (tokens count (now (ops .entry)) (now (operands .entry))) (now (records .entry))) s m window old n (now (answers .exit)) r) ⌝ }
+{
+    let mut bits = past;
+    let mut k = at;
+    while k < n {
+        let from = nv * k;
+        let value = expr_eval::inner::eval_tokens(
+            w,
+            count,
+            ops,
+            operands,
+            &records[from..from + nv],
+        );
+        bits = feed(answers, k, value, m, window, bits);
+        k += 1;
+    }
+    bits
+}
+
+// The first records, `rows` times sixteen of them: the formula goes over sixteen at once.
+fn run_rows(
+    answers: &mut [u8],
+    nv: usize,
+    w: u32,
+    count: usize,
+    ops: &[u8],
+    operands: &[u64],
+    m: u32,
+    window: u32,
+    past: u64,
+    rows: usize,
+    records: &[u64],
+) -> u64
+    requires { ⌜ Ready nv w count (now ops) (now operands) m window (16 * rows) (now records) × (16 * rows ≤ length (now answers)) ⌝ }
+    ensures { λ r. ⌜ ((s : ℕ) (old : List ℕ) → Fed (markAt nv w (tokens count (now (ops .entry)) (now (operands .entry))) (now (records .entry))) s m window old 0 (now (answers .entry)) past → Fed (markAt nv w (tokens count (now (ops .entry)) (now (operands .entry))) (now (records .entry))) s m window old (16 * rows) (now (answers .exit)) r) ⌝ }
+{
+    let mut stack = [0u64; expr_rows::STACK_WORDS];
+    let step = ROW_WORDS * nv;
+    let mut bits = past;
+    let mut k: usize = 0;
+    while k < rows {
+        let from = step * k;
+        let row = expr_rows::inner::eval_row(
+            &mut stack,
+            w,
+            nv,
+            count,
+            ops,
+            operands,
+            &records[from..from + step],
+        );
+        bits = feed_row(answers, ROW_WORDS * k, row, m, window, bits);
+        k += 1;
+    }
+    bits
+}
+
+// All n records: by rows as far as they go, then the rest.
+pub fn run(
+    answers: &mut [u8],
+    nv: u32,
+    w: u32,
+    count: usize,
+    ops: &[u8],
+    operands: &[u64],
+    m: u32,
+    window: u32,
+    past: u64,
+    n: usize,
+    records: &[u64],
+) -> u64
+    requires { ⌜ Ready nv w count (now ops) (now operands) m window n (now records) × (n ≤ length (now answers)) ⌝ }
+    ensures { λ r. ⌜ Fed (markAt nv w (tokens count (now (ops .entry)) (now (operands .entry))) (now (records .entry))) past m window (now (answers .entry)) n (now (answers .exit)) r ⌝ }
+{
+    let words = nv as usize;
+    if n < ROW_WORDS {
+        return run_rest(
+            answers,
+            words,
+            w,
+            count,
+            ops,
+            operands,
+            m,
+            window,
+            past,
+            0,
+            n,
+            records,
+        );
+    }
+    let rows = n / ROW_WORDS;
+    let bits = run_rows(
+        answers,
+        words,
+        w,
+        count,
+        ops,
+        operands,
+        m,
+        window,
+        past,
+        rows,
+        records,
+    );
+    run_rest(
+        answers,
+        words,
+        w,
+        count,
+        ops,
+        operands,
+        m,
+        window,
+        bits,
+        ROW_WORDS * rows,
+        n,
+        records,
+    )
+}
