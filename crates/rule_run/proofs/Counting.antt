@@ -126,11 +126,11 @@ mark-one zero h = absurd (omega arith)
 mark-one (suc v) h = refl
 
 module _ (mark : ℕ → ℕ) (s : ℕ) where
-  ago-here : (n i : ℕ) → i < n → ago mark s n i ≡ mark (n - 1 - i)
+  pub ago-here : (n i : ℕ) → i < n → ago mark s n i ≡ mark (n - 1 - i)
   unfolding ago
   ago-here n i h = ap (λ (b : Bool). cond b (mark (n - 1 - i)) (bitOf s (i - n))) (lt-ltb i n h)
 
-  ago-before : (n i : ℕ) → n ≤ i → ago mark s n i ≡ bitOf s (i - n)
+  pub ago-before : (n i : ℕ) → n ≤ i → ago mark s n i ≡ bitOf s (i - n)
   unfolding ago
   ago-before n i h = ap (λ (b : Bool). cond b (mark (n - 1 - i)) (bitOf s (i - n))) (le-ltb i n h)
 
@@ -155,6 +155,10 @@ module _ (mark : ℕ → ℕ) (s : ℕ) where
     pub state-bit : (n i : ℕ) → i < 64 → bitOf (stateAfter mark s n) i ≡ ago mark s n i
     unfolding stateAfter
     state-bit n i h = bit-word 64 (ago mark s n) (ago-low n) i h
+
+    pub state-lt : (n : ℕ) → stateAfter mark s n < 2 ^ 64
+    unfolding stateAfter
+    state-lt n = word-lt 64 (ago mark s n) (ago-low n)
 
     pub state-more : (n : ℕ) → stateAfter mark s (suc n) ≡ (stateAfter mark s n + stateAfter mark s n + mark n) % 2 ^ 64
     unfolding stateAfter

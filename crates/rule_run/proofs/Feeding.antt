@@ -7,7 +7,7 @@ use native.Mathlib.Nat.{le-trans, mul-le-mul-left, div-lt-iff-lt-mul, mul-comm, 
 use native.Mathlib.Numerals.{add-one}
 use native.Mathlib.Decide.{decLt}
 use native.Mathlib.Omega.{arith}
-use borrow.Author.Tests.{lt-ltb, le-ltb, ltb-false}
+use borrow.Author.Tests.{lt-ltb, le-ltb, ltb-false, not-false}
 use lib.Dec.{leb, ltb}
 use lib.ListN.{length, set, length-map}
 use Rattle.arrays.specs.Lists.{countUp, laid}
@@ -99,6 +99,15 @@ parts-few long nv n h = elim (decLt (long / nv) n) [
   ]))
 ]
 
+-- every test passed
+pub record Passes (nv w count : ℕ) (ops operands : List ℕ) (m window n : ℕ) (records answers : List ℕ) : Type 0 where
+  pub vars : badCount nv ≡ false
+  pub width : badWidth w ≡ false
+  pub tokens-long : tooShort count ops operands ≡ false
+  pub arrays-long : tooFew nv n records answers ≡ false
+  pub formula : notFormula nv count ops operands ≡ false
+  pub range : badWindow m window ≡ false
+
 module _ (nv w count : ℕ) (ops operands : List ℕ) (m window n : ℕ) (records answers : List ℕ) where
   abbrev number : ℕ
   number = runRefusal nv w count ops operands m window n records answers
@@ -131,24 +140,30 @@ module _ (nv w count : ℕ) (ops operands : List ℕ) (m window n : ℕ) (record
           unfolding runRefusal
           refusal-none e = sym (refused-later 1 a (refused-later 2 b (refused-later 4 c (refused-later 6 d (refused-later 10 e refl)))))
 
-  -- where none applies, the run may go on
-  pub ready : number ≡ 0 → Ready nv w count ops operands m window n records × (n ≤ length answers)
+  -- where none applies, each test was passed
+  pub passes : number ≡ 0 → Passes nv w count ops operands m window n records answers
   unfolding runRefusal
-  ready e =
+  passes e =
       let one = passed (badCount nv) 1 _ (omega arith) e in
       let two = passed (badWidth w) 2 _ (omega arith) (one .1) in
       let four = passed (tooShort count ops operands || tooFew nv n records answers) 4 _ (omega arith) (two .1) in
       let six = passed (notFormula nv count ops operands) 6 _ (omega arith) (four .1) in
       let ten = passed (badWindow m window) 10 0 (omega arith) (six .1) in
-      let few = neither (tooShort count ops operands) (tooFew nv n records answers) (four .0) in
-      let long = neither (ltb (length records) (nv * n)) (ltb (length answers) n) (few .1) in
-      let range = neither (outsideOf 1 64 window) (outsideOf 1 window m) (ten .0) in
-      let vars = within 1 6 nv (one .0) in (
+      let long = neither (tooShort count ops operands) (tooFew nv n records answers) (four .0) in
+      record { vars = one .0; width = two .0; tokens-long = long .0; arrays-long = long .1; formula = six .0; range = ten .0 }
+
+  -- and the run may go on
+  pub ready : number ≡ 0 → Ready nv w count ops operands m window n records × (n ≤ length answers)
+  ready e =
+      let p = passes e in
+      let long = neither (ltb (length records) (nv * n)) (ltb (length answers) n) (p .arrays-long) in
+      let range = neither (outsideOf 1 64 window) (outsideOf 1 window m) (p .range) in
+      let vars = within 1 6 nv (p .vars) in (
         record {
           some = vars .least;
           few = vars .most;
-          narrow = within 1 64 w (two .0) .most;
-          formula = formed (isFormula nv (tokens count ops operands)) (six .0);
+          narrow = within 1 64 w (p .width) .most;
+          formula = not-false (isFormula nv (tokens count ops operands)) (p .formula);
           least = within 1 window m (range .1) .least;
           reach = within 1 window m (range .1) .most;
           most = within 1 64 window (range .0) .most;
@@ -156,10 +171,6 @@ module _ (nv w count : ℕ) (ops operands : List ℕ) (m window n : ℕ) (record
         },
         ltb-false (length answers) n (long .1),
       )
-    where
-      formed : (b : Bool) → not b ≡ false → b ≡ true
-      formed true h = refl
-      formed false h = sym h
 
 -- fewer records of the same
 pub ready-less : (nv w count : ℕ) (ops operands : List ℕ) (m window n k : ℕ) (records : List ℕ) → k ≤ n → Ready nv w count ops operands m window n records → Ready nv w count ops operands m window k records

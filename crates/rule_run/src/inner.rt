@@ -75,17 +75,27 @@ fn mark_of(value: u64) -> u64
     if value != 0 { 1 } else { 0 }
 }
 
-// The answer to a record with this mark: the W - 1 records before it are the lowest bits of `past`.
-fn answer_of(past: u64, mark: u64, m: u32, window: u32) -> u8
+// How many of the last W marks are 1: this one, and the W - 1 before it, which are the lowest bits of `past`.
+fn count_of(past: u64, mark: u64, window: u32) -> u64
     requires { ⌜ (1 ≤ window) × ((window ≤ 64) × (mark ≤ 1)) ⌝ }
-    ensures { λ r. ⌜ r ≡ cond (leb m (sumBelow (window - 1) (bitOf past) + mark)) 1 0 ⌝ }
+    ensures { λ r. ⌜ r ≡ sumBelow (window - 1) (bitOf past) + mark ⌝ }
 {
     let before = u64::count_ones(arith::reduce(past, window - 1));
-    if m as u64 <= before as u64 + mark {
-        1
-    } else {
-        0
-    }
+    before as u64 + mark
+}
+
+// Whether a count reaches M.
+fn reaches(count: u64, m: u32) -> bool
+    ensures { λ r. ⌜ r ≡ leb m count ⌝ }
+{
+    m as u64 <= count
+}
+
+// The answer as a byte.
+fn answer_of(count: u64, m: u32) -> u8
+    ensures { λ r. ⌜ r ≡ cond (leb m count) 1 0 ⌝ }
+{
+    if reaches(count, m) { 1 } else { 0 }
 }
 
 // The state with one mark more; the oldest of 64 is gone.
@@ -101,7 +111,7 @@ fn feed(answers: &mut [u8], at: usize, value: u64, m: u32, window: u32, past: u6
     ensures { λ r. ⌜ ((mark : ℕ → ℕ) (s : ℕ) (old : List ℕ) → mark at ≡ nonzero value → Fed mark s m window old at (now (answers .entry)) past → Fed mark s m window old (at + 1) (now (answers .exit)) r) ⌝ }
 {
     let mark = mark_of(value);
-    answers[at] = answer_of(past, mark, m, window);
+    answers[at] = answer_of(count_of(past, mark, window), m);
     with_mark(past, mark)
 }
 

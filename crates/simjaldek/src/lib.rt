@@ -2,6 +2,7 @@
 // A refusal is a number of 01's table, 0 for none; a row is the first sixteen words of its slice, and a shorter slice is refused 4.
 use expr_cost::Cost;
 use listing::ListingAnswer;
+use rule_run::RuleState;
 use simjaldek_abi::CostReply;
 use simjaldek_abi::DrawReply;
 use simjaldek_abi::FormulaReply;
@@ -9,6 +10,7 @@ use simjaldek_abi::PointsReply;
 use simjaldek_abi::Reply;
 use simjaldek_abi::ResidualReply;
 use simjaldek_abi::RowReply;
+use simjaldek_abi::RuleReply;
 use simjaldek_abi::TextReply;
 use simjaldek_abi::TokenReply;
 use simjaldek_abi::WordReply;
@@ -25,6 +27,7 @@ ghost use Rattle.expr_eval.specs.Answers.{evaluated};
 ghost use Rattle.expr_cost.specs.Answers.{costed};
 ghost use Rattle.expr_cost.specs.Cost.{isBetter};
 ghost use Rattle.load_draw.specs.Draw.{called};
+ghost use Rattle.rule_run.specs.Window.{ran};
 ghost use Rattle.probe_points.specs.Points.{drawn, madePoints};
 ghost use Rattle.probe.specs.FormulaRow.{probed};
 ghost use Rattle.row_fingerprint.specs.Fingerprint.{fingerprintOf};
@@ -35,7 +38,7 @@ ghost use Rattle.search_product_forms.specs.Written.{forms};
 ghost use Rattle.search_product.specs.Answer.{product};
 ghost use Rattle.search_residual.specs.Answer.{completion};
 ghost use Rattle.simjaldek_abi.specs.Slices.{rowIn, shortRow, rowRefusal, pointsIn, pointsRefusal, twoShort, threeShort, gateRefusal};
-ghost use Rattle.simjaldek_abi.specs.Reply.{orElse, rowOrElse, wordReply, costReply, pointsReply, drawReply, costFrom, markOf, matchReply, optionReply, numberReply, productReply, residualReply, tokenReply, formulaReply};
+ghost use Rattle.simjaldek_abi.specs.Reply.{orElse, rowOrElse, wordReply, costReply, pointsReply, drawReply, costFrom, markOf, matchReply, optionReply, numberReply, productReply, residualReply, tokenReply, formulaReply, ruleReply};
 ghost use Rattle.simjaldek.specs.Beside.{Indexed, Listed, BankReplied, Texted};
 
 // `search_product::product_search`: kind 0 nothing, 1 the atoms a and b, 2 the atom a and the pair b, the cheapest product. Refuses 2, 4, 5, 6, 7, 8.
@@ -283,6 +286,44 @@ pub extern "C" fn simjaldek_draw_formula(
         refusal: x.refusal,
         count: x.count,
         state: x.state,
+    }
+}
+
+// `rule_run::run_rule`: the answers stand in the array. Refuses 1, 2, 4, 6, and 10 for an M or a W outside its range.
+#[no_mangle]
+pub extern "C" fn simjaldek_run_rule(
+    answers: &mut [u8],
+    nv: u32,
+    w: u32,
+    token_count: usize,
+    ops: &[u8],
+    operands: &[u64],
+    m: u32,
+    window: u32,
+    state: u64,
+    n: usize,
+    records: &[u64],
+) -> RuleReply
+    ensures { λ r. ⌜ r ≡ ruleReply (ran nv w «token_count» (now (ops .entry)) (now (operands .entry)) m window (record { past = state }) n (now (records .entry)) (now (answers .entry)) .reply) ⌝ }
+    ensures { λ r. ⌜ now (answers .exit) ≡ ran nv w «token_count» (now (ops .entry)) (now (operands .entry)) m window (record { past = state }) n (now (records .entry)) (now (answers .entry)) .answers ⌝ }
+{
+    let x = rule_run::run_rule(
+        answers,
+        nv,
+        w,
+        token_count,
+        ops,
+        operands,
+        m,
+        window,
+        RuleState { past: state },
+        n,
+        records,
+    );
+    let after = x.state;
+    RuleReply {
+        refusal: x.refusal,
+        state: after.past,
     }
 }
 

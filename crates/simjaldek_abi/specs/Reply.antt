@@ -16,6 +16,7 @@ use Rattle.probe_points.specs.declared.Draw.{Draw}
 use Rattle.probe_points.specs.declared.Point.{Point}
 use Rattle.probe_points.specs.declared.Points.{Points}
 use Rattle.load_draw.specs.declared.DrawnFormula.{DrawnFormula}
+use Rattle.rule_run.specs.declared.RuleAnswer.{RuleAnswer}
 use Rattle.search_product_trial.specs.Trying.{Product}
 use Rattle.search_residual_trial.specs.Trying.{Completion}
 use Rattle.index.specs.Build.{Summary}
@@ -30,6 +31,7 @@ use Rattle.simjaldek_abi.specs.declared.PointsReply.{PointsReply}
 use Rattle.simjaldek_abi.specs.declared.TokenReply.{TokenReply}
 use Rattle.simjaldek_abi.specs.declared.TextReply.{TextReply}
 use Rattle.simjaldek_abi.specs.declared.FormulaReply.{FormulaReply}
+use Rattle.simjaldek_abi.specs.declared.RuleReply.{RuleReply}
 
 -- 01, Turned back: the least applicable number counts. A number found before the call, else what the call answers
 abbrev pub orElse : {A : Type 0} → ℕ → Outcome A → Outcome A
@@ -144,6 +146,10 @@ tokenReply t = tokenParts (opcodeOf t) (operandOf t)
 -- 02, 2.2: how many tokens were drawn, and the state handed on
 abbrev pub formulaReply : DrawnFormula → FormulaReply
 formulaReply x = record { refusal = x .refusal; count = x .count; state = x .state }
+
+-- 02, 2.6: the state handed back
+abbrev pub ruleReply : RuleAnswer → RuleReply
+ruleReply x = record { refusal = x .refusal; state = x .state .past }
 
 -- how long the text is that a call wrote, and the reply of a refusal
 abbrev pub textReply : Outcome ℕ → TextReply

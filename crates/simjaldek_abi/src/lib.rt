@@ -85,3 +85,10 @@ pub struct FormulaReply {
     pub count: usize,
     pub state: u64,
 }
+
+// The state after a run's records; as it was beside a refusal.
+#[repr(C)]
+pub struct RuleReply {
+    pub refusal: u32,
+    pub state: u64,
+}
