@@ -1,6 +1,6 @@
 /* Shortens two formulas at width 8: the cheapest product with the row of v0 * v0 + v0 * v1, and, since no product has its
    row, a sum with that of v0 * v0 + v0 * v1 + v0 * v1 + v1 * v1 + (v0 ^ v1), the first that fits. The calls in their order,
-   with arrays of the sizes that they need. README.md says how it is compiled. */
+   with arrays of the sizes that they need. Then a rule over records that come in two parts. README.md says how it is compiled. */
 #include "simjaldek.h"
 #include <stdio.h>
 #include <stdlib.h>
@@ -84,10 +84,36 @@ static void shorten(const uint64_t *points, size_t token_count) {
     printf("nothing, %s\n", index.b == 1 ? "but the index is cut" : "for certain, of these forms");
 }
 
+/* a rule over six records: it fires where v0 & v1 was nonzero in at least 2 of the last 3, the present one included. The state
+   that a call hands back goes into the next one. */
+static void replay(void) {
+    enum { RECORDS = 6, PART = 3, RULE = 3 };
+    static const uint8_t rule_ops[RULE] = {1, 1, 4};
+    static const uint64_t rule_operands[RULE] = {0, 1, 0};
+    static const uint64_t records[NV * RECORDS] = {1, 1, 1, 2, 3, 2, 7, 4, 5, 2, 8, 4};
+    uint8_t answers[RECORDS];
+    uint64_t state = 0; /* no record yet */
+    for (size_t k = 0; k < RECORDS; k += PART) {
+        struct simjaldek_rule_reply ran = simjaldek_run_rule(
+            answers + k, PART, NV, W, RULE, rule_ops, RULE, rule_operands, RULE, 2, 3, state,
+            PART, records + NV * k, NV * PART);
+        refused("run_rule", ran.refusal);
+        state = ran.state;
+    }
+    printf("the rule fires at records");
+    for (int k = 0; k < RECORDS; k++) {
+        if (answers[k] == 1) {
+            printf(" %d", k + 1);
+        }
+    }
+    printf("\n");
+}
+
 int main(void) {
     struct simjaldek_points_reply at = simjaldek_make_probe_points(NV, W);
     refused("make_probe_points", at.refusal);
     shorten((const uint64_t *)at.points, 7);
     shorten((const uint64_t *)at.points, TOKENS);
+    replay();
     return 0;
 }

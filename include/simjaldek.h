@@ -8,14 +8,16 @@
    width, for completions only where a bank build left the atoms, or their rows are below 2^w, or one of them is 0 modulo 2^w.
    That arrays, counts and widths belong together is not tested.
 
+   A rule's run begins with state 0; each call after the first is handed the state that the one before it gave.
+
    Opcodes: 0 constant, 1 variable, 2 Add, 3 Mul, 4 And, 5 Or, 6 Xor, 7 Not, 8 Neg. Gates have numbers of their own: 0 And,
    1 Or, 2 Xor, 3 Add, 4 Mul.
 
    An array goes as its first element's address and its length. An array that is written must not overlap another.
    `refusal`, where a reply has it, is 0 for an answer, else why there is none: 1 variable count, 2 width, 3 limit, 4 array
    too short, 5 word not below 2^w, 6 no formula, no gate or no token limit, 7 too many atoms or pairs, a slot past the count
-   or a pair's gate above 4, 8 order list. Beside a refusal no array was written, and the rest of the reply is zeros, but for a
-   state that was handed in: it is as it was. */
+   or a pair's gate above 4, 8 order list, 10 m not 1 to the window or the window not 1 to 64. Beside a refusal no array was
+   written, and the rest of the reply is zeros, but for a state that was handed in: it is as it was. */
 #ifndef SIMJALDEK_H
 #define SIMJALDEK_H
 
@@ -96,6 +98,12 @@ struct simjaldek_text_reply {
 struct simjaldek_formula_reply {
     uint32_t refusal;
     size_t count;
+    uint64_t state;
+};
+
+/* The state after a run's records; as it was beside a refusal. */
+struct simjaldek_rule_reply {
+    uint32_t refusal;
     uint64_t state;
 };
 
@@ -200,6 +208,20 @@ struct simjaldek_formula_reply simjaldek_draw_formula(
     uint32_t nv,
     uint32_t w,
     size_t limit);
+
+/* `rule_run::run_rule`: the answers stand in the array. Refuses 1, 2, 4, 6, and 10 for an M or a W outside its range. */
+struct simjaldek_rule_reply simjaldek_run_rule(
+    uint8_t *answers, size_t answers_len,
+    uint32_t nv,
+    uint32_t w,
+    size_t token_count,
+    const uint8_t *ops, size_t ops_len,
+    const uint64_t *operands, size_t operands_len,
+    uint32_t m,
+    uint32_t window,
+    uint64_t state,
+    size_t n,
+    const uint64_t *records, size_t records_len);
 
 /* `probe_points::make_probe_points`. Refuses 1, 2. */
 struct simjaldek_points_reply simjaldek_make_probe_points(

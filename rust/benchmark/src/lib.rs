@@ -12,6 +12,7 @@ pub mod measure;
 pub mod parse;
 mod process;
 mod residuals;
+mod rules;
 mod searches;
 mod setting;
 pub mod stack;
@@ -56,11 +57,13 @@ pub enum Call {
     EvaluateCompiled,
     Cost,
     Draw,
+    Rule,
+    RuleOne,
 }
 
 impl Call {
     /// All calls, in the tables' order.
-    pub const ALL: [Call; 24] = [
+    pub const ALL: [Call; 26] = [
         Call::Bank,
         Call::Index,
         Call::SearchNothing,
@@ -85,6 +88,8 @@ impl Call {
         Call::EvaluateCompiled,
         Call::Cost,
         Call::Draw,
+        Call::Rule,
+        Call::RuleOne,
     ];
 
     /// Its heading.
@@ -114,14 +119,17 @@ impl Call {
             Call::EvaluateCompiled => "Evaluate, the Rust's formula compiled before",
             Call::Cost => "Cost",
             Call::Draw => "Draw a formula",
+            Call::Rule => "Rule over records",
+            Call::RuleOne => "Rule, one record a call",
         }
     }
 
-    /// The most that our time may be of the Rust's; none where the Rust does less than the reference.
+    /// The most that our time may be of the Rust's; none where the Rust does less than the reference, and for a rule's single records.
     pub fn bar(self) -> Option<f64> {
         match self {
             Call::Bank | Call::Index => Some(0.5),
             Call::EvaluateCompiled | Call::ResidualMaps | Call::CandidatesBuckets => None,
+            Call::RuleOne => None,
             _ => Some(1.0),
         }
     }
@@ -161,6 +169,7 @@ pub fn time_setting(plan: &Plan, setting: &mut Setting) -> Vec<Line> {
         candidates::time(plan, setting, &mut take);
         formulas::time(plan, num_vars, width, &mut take);
         load::time(plan, num_vars, width, &mut take);
+        rules::time(plan, num_vars, width, &mut take);
     }
     residuals::time(plan, setting, &mut take);
     lines
@@ -177,6 +186,7 @@ pub fn check_setting(setting: &Setting) {
         candidates::check(setting);
         formulas::check(setting.num_vars, setting.width);
         load::check(setting.num_vars, setting.width);
+        rules::check(setting.num_vars, setting.width);
     }
     residuals::check(setting);
 }

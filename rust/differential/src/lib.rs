@@ -18,6 +18,7 @@ pub mod program;
 mod refused;
 pub mod report;
 mod residuals;
+mod rules;
 mod searches;
 mod words;
 
@@ -43,6 +44,12 @@ const SEARCH_REFUSALS: usize = 32;
 const ROUNDS_TO_A_LOAD: u64 = 64;
 /// Calls of a round of loads alone that may be refused.
 const LOAD_REFUSALS: usize = 32;
+/// Of so many rounds one has a long run of a rule; records of such a run, in a round of rules alone too.
+const ROUNDS_TO_A_RUN: u64 = 64;
+const LONG_RUN: usize = 100_000;
+/// Runs of a round of rules alone that are cut, and calls that may be refused.
+const RULE_RUNS: usize = 64;
+const RULE_REFUSALS: usize = 256;
 
 /// Rounds until at least `count` results are compared.
 pub fn run(seed: u64, count: u64) -> Report {
@@ -88,7 +95,18 @@ pub fn run_loads(seed: u64, count: u64) -> Report {
     report
 }
 
-/// One round: banks, indexes and searches, formulas, loads, words, listings, and what is refused.
+/// Rounds of rules alone until at least `count` of their calls are compared.
+pub fn run_rules(seed: u64, count: u64) -> Report {
+    let mut report = Report::new(seed);
+    let mut number = 0;
+    while report.of_kind(Kind::RuleCall) < count {
+        rule_round(seed, number, &mut report);
+        number += 1;
+    }
+    report
+}
+
+/// One round: banks, indexes and searches, formulas, loads, rules, words, listings, and what is refused.
 pub fn round(seed: u64, number: u64, report: &mut Report) {
     let inputs = &mut begin(seed, number, report);
     for _ in 1..BANKS {
@@ -110,6 +128,10 @@ pub fn round(seed: u64, number: u64, report: &mut Report) {
     loads::compare(inputs, report);
     if number % ROUNDS_TO_A_LOAD == 0 {
         loads::compare_load(inputs, report);
+    }
+    rules::compare(inputs, report);
+    if number % ROUNDS_TO_A_RUN == 0 {
+        rules::compare_long(inputs, report, LONG_RUN);
     }
     words::compare(inputs, report);
     listings::compare(inputs, report);
@@ -178,6 +200,19 @@ pub fn load_round(seed: u64, number: u64, report: &mut Report) {
     loads::compare_load(inputs, report);
     for _ in 0..LOAD_REFUSALS {
         refused::draw(inputs, report);
+    }
+}
+
+/// One round of rules: a call for every M and W, runs that are cut, one of them long; and what is refused.
+pub fn rule_round(seed: u64, number: u64, report: &mut Report) {
+    let inputs = &mut begin(seed, number, report);
+    rules::compare_all(inputs, report);
+    for _ in 0..RULE_RUNS {
+        rules::compare_run(inputs, report);
+    }
+    rules::compare_long(inputs, report, LONG_RUN);
+    for _ in 0..RULE_REFUSALS {
+        refused::rule(inputs, report);
     }
 }
 

@@ -47,6 +47,10 @@ pub enum Kind {
     DrawnFormula,
     /// The same for each of ten thousand, up to the first that differs.
     DrawnLoad,
+    /// A rule's answers to records, places beyond them too, and the state handed on, from any state; against the plain statement.
+    RuleCall,
+    /// All answers and the last state of a run from the empty state that is cut into calls, against the plain statement of the whole run.
+    RuleRun,
     Points,
     Splitmix,
     Fingerprint,
@@ -77,6 +81,7 @@ pub enum Kind {
     RefusedCost,
     RefusedFormulaRow,
     RefusedDraw,
+    RefusedRule,
     RefusedPoints,
     RefusedGate,
     RefusedFingerprint,
@@ -84,7 +89,7 @@ pub enum Kind {
 
 impl Kind {
     /// Every kind, in order.
-    pub const ALL: [Kind; 48] = [
+    pub const ALL: [Kind; 51] = [
         Kind::Bank,
         Kind::FindRow,
         Kind::AtomRow,
@@ -106,6 +111,8 @@ impl Kind {
         Kind::Token,
         Kind::DrawnFormula,
         Kind::DrawnLoad,
+        Kind::RuleCall,
+        Kind::RuleRun,
         Kind::Points,
         Kind::Splitmix,
         Kind::Fingerprint,
@@ -130,6 +137,7 @@ impl Kind {
         Kind::RefusedCost,
         Kind::RefusedFormulaRow,
         Kind::RefusedDraw,
+        Kind::RefusedRule,
         Kind::RefusedPoints,
         Kind::RefusedGate,
         Kind::RefusedFingerprint,
@@ -158,7 +166,7 @@ pub struct Report {
     round: u64,
     tallies: BTreeMap<Kind, Tally>,
     /// Refused calls by the table's number; the first place has the calls that were answered.
-    refusals: [u64; 10],
+    refusals: [u64; 11],
     /// How often something came up that a run should reach.
     reached: BTreeMap<&'static str, u64>,
     differences: Vec<String>,
@@ -170,7 +178,7 @@ impl Report {
             seed,
             round: 0,
             tallies: BTreeMap::new(),
-            refusals: [0; 10],
+            refusals: [0; 11],
             reached: BTreeMap::new(),
             differences: Vec::new(),
         }
@@ -277,10 +285,10 @@ impl fmt::Display for Report {
             sum = sum.and(tally);
         }
         line(f, "all", &sum)?;
-        let numbers = &self.refusals[1..9];
+        let numbers = &self.refusals[1..];
         writeln!(
             f,
-            "calls refused, by number 1 to 8: {numbers:?}; answered beside them: {}",
+            "calls refused, by number 1 to 10 (9 is of programs alone): {numbers:?}; answered beside them: {}",
             self.refusals[0]
         )?;
         for (name, count) in &self.reached {

@@ -1,12 +1,13 @@
 //! A small run: a few rounds, all kinds, no difference but those of docs/DIFFERENCES.md.
 
 use differential::report::Kind;
-use differential::{run, run_loads, run_products, run_residuals};
+use differential::{run, run_loads, run_products, run_residuals, run_rules};
 
 const COUNT: u64 = 600;
 const PRODUCTS: u64 = 4000;
 const RESIDUALS: u64 = 4000;
 const DRAWN: u64 = 2000;
+const RULES: u64 = 4000;
 const RAW: u64 = 4000;
 
 #[test]
@@ -82,6 +83,32 @@ fn loads() {
     for count in counts {
         assert!(!count.ends_with(": 0"), "{count}");
     }
+}
+
+/// A run of rules meets every window, both answers, counts at the edge of M and records at the edge of W, words from 2^w up that alone would
+/// count, and every refusal.
+#[test]
+fn rules() {
+    let report = run_rules(1, RULES);
+    assert_eq!(report.others(), 0, "{report}");
+    for kind in [Kind::RuleCall, Kind::RuleRun, Kind::RefusedRule] {
+        assert!(report.of_kind(kind) > 100, "{report}");
+    }
+    let text = report.to_string();
+    let counts = text.lines().filter(|line| line.starts_with("rule: "));
+    assert_eq!(counts.clone().count(), 10, "{report}");
+    for count in counts {
+        assert!(!count.ends_with(": 0"), "{count}");
+    }
+    let refused = text.lines().find(|line| line.starts_with("calls refused"));
+    let numbers = refused.and_then(|line| line.split(['[', ']']).nth(1));
+    let numbers: Vec<&str> = numbers.expect("a list").split(", ").collect();
+    assert!(
+        [1, 2, 4, 6, 10]
+            .iter()
+            .all(|&number| numbers[number - 1] != "0"),
+        "{report}"
+    );
 }
 
 #[test]

@@ -87,6 +87,13 @@ pub struct FormulaReply {
     pub state: u64,
 }
 
+/// The state after a run's records; as it was beside a refusal.
+#[repr(C)]
+pub struct RuleReply {
+    pub refusal: u32,
+    pub state: u64,
+}
+
 extern "C" {
     pub fn simjaldek_product_search(
         w: u32,
@@ -229,6 +236,24 @@ extern "C" {
         w: u32,
         limit: usize,
     ) -> FormulaReply;
+
+    pub fn simjaldek_run_rule(
+        answers: *mut u8,
+        answers_len: usize,
+        nv: u32,
+        w: u32,
+        token_count: usize,
+        ops: *const u8,
+        ops_len: usize,
+        operands: *const u64,
+        operands_len: usize,
+        m: u32,
+        window: u32,
+        state: u64,
+        n: usize,
+        records: *const u64,
+        records_len: usize,
+    ) -> RuleReply;
 
     pub fn simjaldek_make_probe_points(nv: u32, w: u32) -> PointsReply;
 

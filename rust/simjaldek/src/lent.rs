@@ -2,8 +2,9 @@
 //! what the table has is refused, and then no buffer has changed. Places beyond the counts stay as they were.
 //!
 //! **Not tested**: that atoms, pairs, points, target and width belong together, that a claimed count is the one that was built, that a
-//! lent row is its formula's or its pair's, and that it is below 2^w. Such a call answers for the words that it gets.
-//! [`Bank`](crate::Bank) and [`Index`](crate::Index) keep together what belongs together.
+//! lent row is its formula's or its pair's, and that it is below 2^w; that a rule's state is of a run with the same formula and width. Such
+//! a call answers for the words that it gets. [`Bank`](crate::Bank), [`Index`](crate::Index) and [`Rule`](crate::Rule) keep together what
+//! belongs together.
 //!
 //! A gate's number is 0 And, 1 Or, 2 Xor, 3 Add, 4 Mul; these are not the opcodes of tokens (2 Add, 3 Mul, 4 And, 5 Or, 6 Xor).
 //!
@@ -13,8 +14,8 @@
 
 use crate::ffi;
 use crate::{
-    AtomSlot, Completion, Cost, Gate, PairSlot, Point, Product, Refusal, Row, Token, ATOMS_MAX,
-    ROW_WORDS,
+    AtomSlot, Completion, Cost, Gate, PairSlot, Point, Product, Refusal, Row, Token, Window,
+    ATOMS_MAX, ROW_WORDS,
 };
 
 /// Atoms' rows: `count` atoms, sixteen words each in `rows`.
@@ -114,6 +115,15 @@ pub struct Tokens<'a> {
     pub ops: &'a [u8],
     /// Operands.
     pub operands: &'a [u64],
+}
+
+/// Records of a run: `count` records, as many words each in `words` as there are variables.
+#[derive(Clone, Copy, Debug)]
+pub struct Records<'a> {
+    /// How many records are claimed.
+    pub count: usize,
+    /// Their words, one record after the other.
+    pub words: &'a [u64],
 }
 
 /// The arrays that a bank is built into.
@@ -492,6 +502,49 @@ pub fn draw_formula(
         state: reply.state,
     };
     unless_refused(reply.refusal, drawn)
+}
+
+/// Answers each record by a byte in the first places of `answers`: 1 where in at least `window.least` of the last `window.records` records,
+/// the present one included, the formula's value modulo 2^w was nonzero, else 0. The words of records may be any. Of the records before
+/// these the state tells: its bit i is 1 where the formula was nonzero i records before the last. Any word is a state; a run begins with 0,
+/// the empty one: nothing was nonzero before its first record. Gives the state that the next records go on from, so that a run has the same
+/// answers wherever it is cut into calls; [`Rule`](crate::Rule) keeps it. Places past the answers stay as they were. Refuses 1, 2, 4, 6, and
+/// 10 for a window that isn't one; a run then stands where it stood.
+// records may come one by one: through a function between such a call is 5 ns more
+#[inline]
+pub fn run_rule(
+    num_vars: u32,
+    width: u32,
+    formula: Tokens<'_>,
+    window: Window,
+    state: u64,
+    records: Records<'_>,
+    answers: &mut [u8],
+) -> Result<u64, Refusal> {
+    // SAFETY: each pointer comes with its own slice's length; the function stays within these lengths and keeps no pointer. The
+    // written slice is `&mut`, so it overlaps nothing.
+    let reply = unsafe {
+        ffi::simjaldek_run_rule(
+            answers.as_mut_ptr(),
+            answers.len(),
+            num_vars,
+            width,
+            formula.count,
+            formula.ops.as_ptr(),
+            formula.ops.len(),
+            formula.operands.as_ptr(),
+            formula.operands.len(),
+            window.least,
+            window.records,
+            state,
+            records.count,
+            records.words.as_ptr(),
+            records.words.len(),
+        )
+    };
+    // a refused call hands the state back as it was
+    debug_assert!(reply.refusal == 0 || reply.state == state);
+    unless_refused(reply.refusal, reply.state)
 }
 
 /// The sixteen points that splitmix64 gives. Refuses 1, 2.

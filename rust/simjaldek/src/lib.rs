@@ -73,6 +73,20 @@
 //! # Ok::<(), Box<dyn std::error::Error>>(())
 //! ```
 //!
+//! A [`Rule`] watches a run of telemetry records: it fires where its formula was nonzero in at least M of the last W, and is fed the
+//! records in slices, as they come.
+//!
+//! ```
+//! use simjaldek::{FormulaBuf, Rule, Window};
+//!
+//! // v0 is the height, v1 the height before; the sign of their difference at width 16
+//! let falling: FormulaBuf = "v0 v1 - + c32768 &".parse()?;
+//! let mut rule = Rule::new(2, 16, falling.as_formula(), Window { least: 2, records: 3 })?;
+//! assert_eq!(rule.feed(&[9120, 9080, 9110, 9120, 9150, 9110])?, [false, false, false]);
+//! assert_eq!(rule.feed(&[9140, 9150, 9090, 9140])?, [true, true]);
+//! # Ok::<(), Box<dyn std::error::Error>>(())
+//! ```
+//!
 //! And a [`Load`] for tests: formulas drawn from a seed, the same ones wherever they are drawn.
 
 #![warn(missing_docs)]
@@ -89,6 +103,7 @@ mod load;
 mod parse;
 mod points;
 mod refusal;
+mod rule;
 mod types;
 
 pub use answers::{CompletionAnswer, ProductAnswer};
@@ -104,9 +119,10 @@ pub use load::Load;
 pub use parse::{ParseFormulaError, ParseTokenError};
 pub use points::{Points, ReadError, Reading};
 pub use refusal::Refusal;
+pub use rule::Rule;
 pub use types::{
-    AtomSlot, Completion, Cost, Gate, PairSlot, Point, Product, Row, ATOMS_MAX, ATOM_TOKENS,
-    FORMULA_TOKENS_MAX, PAIRS_MAX, POINT_WORDS, ROW_WORDS,
+    AtomSlot, Completion, Cost, Gate, PairSlot, Point, Product, Row, Window, ATOMS_MAX,
+    ATOM_TOKENS, FORMULA_TOKENS_MAX, PAIRS_MAX, POINT_WORDS, ROW_WORDS, WINDOW_MAX,
 };
 
 /// Whether the tokens are a formula over so many variables: what refusal 6 tests. [`Formula::fault`] says what they lack. Any count of

@@ -26,6 +26,8 @@ pub enum Refusal {
     OrderList,
     /// 9: a program's text is not the numbers that it asks for. No call of this crate answers it.
     Text,
+    /// 10: a rule's M is not 1 to W, or its W is not 1 to 64.
+    Window,
     /// A number that the table doesn't have.
     Other(u32),
 }
@@ -43,6 +45,7 @@ impl Refusal {
             7 => Refusal::Count,
             8 => Refusal::OrderList,
             9 => Refusal::Text,
+            10 => Refusal::Window,
             other => Refusal::Other(other),
         }
     }
@@ -59,6 +62,7 @@ impl Refusal {
             Refusal::Count => 7,
             Refusal::OrderList => 8,
             Refusal::Text => 9,
+            Refusal::Window => 10,
             Refusal::Other(number) => number,
         }
     }
@@ -85,6 +89,7 @@ impl fmt::Display for Refusal {
             }
             Refusal::OrderList => "the order list isn't the one of the rows",
             Refusal::Text => "the text isn't the unsigned decimals that are asked for",
+            Refusal::Window => "a rule's M not 1 to W, or its W not 1 to 64",
             Refusal::Other(_) => "unknown",
         };
         write!(f, "refused {}: {condition}", self.number())

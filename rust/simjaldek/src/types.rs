@@ -1,4 +1,4 @@
-//! The words that the calls speak in: rows, points, slots, gates, costs, products, completions.
+//! The words that the calls speak in: rows, points, slots, gates, costs, products, completions, windows.
 
 use crate::Token;
 use std::fmt;
@@ -15,6 +15,8 @@ pub const POINT_WORDS: usize = 6;
 pub const ATOM_TOKENS: usize = 6;
 /// The most tokens of a formula.
 pub const FORMULA_TOKENS_MAX: usize = 64;
+/// The most records of a rule's window.
+pub const WINDOW_MAX: u32 = 64;
 
 /// Sixteen words: a formula's values at the sixteen points.
 pub type Row = [u64; ROW_WORDS];
@@ -124,4 +126,14 @@ pub enum Completion {
     AtomPair(Gate, AtomSlot, PairSlot),
     /// Neither an atom nor a listed pair completes an atom to the target, under Xor or under Add.
     Nothing,
+}
+
+/// The window of a rule: it fires at a record where in at least M of the last W records, the present one included, its formula was nonzero.
+/// Any numbers may be handed in; the calls refuse 10 where M isn't 1 to W or W isn't 1 to 64.
+#[derive(Clone, Copy, Debug, PartialEq, Eq, Hash)]
+pub struct Window {
+    /// M: how many records it takes.
+    pub least: u32,
+    /// W: of how many, the present one included.
+    pub records: u32,
 }

@@ -5,9 +5,12 @@ mod common;
 use common::{
     one_variable, p2, BankBuffers, IndexBuffers, OwnAtoms, OwnPairs, FILL, FILL_U32, FILL_U64,
 };
-use simjaldek::lent::{self, Atoms, Built, PairRows, Pairs, Tokens, WrittenAtoms, WrittenPairs};
+use simjaldek::lent::{
+    self, Atoms, Built, PairRows, Pairs, Records, Tokens, WrittenAtoms, WrittenPairs,
+};
 use simjaldek::{
-    AtomSlot, Bank, Gate, Index, Load, PairSlot, Points, Product, Refusal, ATOMS_MAX, PAIRS_MAX,
+    AtomSlot, Bank, Formula, Gate, Index, Load, PairSlot, Points, Product, Refusal, Rule, Window,
+    ATOMS_MAX, PAIRS_MAX,
 };
 
 const P2_POINTS: [u64; 4] = [0, 1, 2, 3];
@@ -723,6 +726,255 @@ fn draw_faults_at_once() {
     assert_eq!(draw_number(1, 8, 0, 0, 0), 6);
     assert_eq!(draw_number(1, 8, 65, 0, 64), 6);
     assert_eq!(draw_number(1, 8, usize::MAX, 1, 1), 6);
+}
+
+// ---- rules
+
+/// What a rule is handed: a formula of three tokens and two records of two words, in arrays that have more.
+#[derive(Clone)]
+struct HandedRule {
+    num_vars: u32,
+    width: u32,
+    tokens: usize,
+    ops: Vec<u8>,
+    operands: Vec<u64>,
+    window: Window,
+    count: usize,
+    records: Vec<u64>,
+    answers: usize,
+}
+
+impl HandedRule {
+    /// What is not refused. What is past the tokens would be.
+    fn good() -> Self {
+        HandedRule {
+            num_vars: 2,
+            width: 8,
+            tokens: 3,
+            ops: vec![1, 1, 4, 9],
+            operands: vec![0, 1, 0, 9],
+            window: Window {
+                least: 3,
+                records: 5,
+            },
+            count: 2,
+            records: vec![1, u64::MAX, 1, 2, 3],
+            answers: 3,
+        }
+    }
+
+    /// Runs into filled places: the state after the records. A refused run must leave the places as they were.
+    fn run(&self, state: u64) -> Result<u64, Refusal> {
+        let mut answers = vec![FILL; self.answers];
+        let formula = Tokens {
+            count: self.tokens,
+            ops: &self.ops,
+            operands: &self.operands,
+        };
+        let (num_vars, width, window) = (self.num_vars, self.width, self.window);
+        let records = Records {
+            count: self.count,
+            words: &self.records,
+        };
+        let ran = lent::run_rule(
+            num_vars,
+            width,
+            formula,
+            window,
+            state,
+            records,
+            &mut answers,
+        );
+        let written = if ran.is_ok() { self.count } else { 0 };
+        assert!(answers[..written].iter().all(|&answer| answer < 2));
+        assert!(answers[written..].iter().all(|&answer| answer == FILL));
+        ran
+    }
+
+    fn number(&self) -> u32 {
+        let refused = number(self.run(0));
+        assert_eq!(number(self.run(u64::MAX)), refused, "whatever the state");
+        refused
+    }
+}
+
+/// A refusal's number and what brings it about.
+type RuleFault = (u32, fn(&mut HandedRule));
+
+/// By falling number.
+const RULE_FAULTS: [RuleFault; 37] = [
+    (10, |h| h.window.least = 0),
+    (10, |h| h.window.least = h.window.records + 1),
+    (10, |h| h.window.least = u32::MAX),
+    (10, |h| h.window.records = 0),
+    (10, |h| h.window.records = 2),
+    (10, |h| h.window.records = 65),
+    (10, |h| h.window.records = u32::MAX),
+    // M is 1 to W, of a W that is none
+    (10, |h| {
+        h.window = Window {
+            least: 65,
+            records: 65,
+        }
+    }),
+    // good when cut to fewer bits
+    (10, |h| h.window.least = 256 + 3),
+    (10, |h| h.window.records = 256 + 5),
+    (6, |h| h.tokens = 0),
+    (6, |h| h.tokens = 2),
+    (6, |h| h.tokens = 4),
+    (6, |h| {
+        h.tokens = 65;
+        h.ops = [vec![1], vec![7; 64]].concat();
+        h.operands = vec![0; 65];
+    }),
+    (6, |h| h.ops[0] = 9),
+    (6, |h| h.ops[2] = 255),
+    (6, |h| h.operands[1] = 2),
+    (6, |h| h.operands[2] = 1),
+    // an operand is missing, and two values are left
+    (6, |h| h.ops[1] = 7),
+    (6, |h| h.ops[2] = 7),
+    (4, |h| {
+        h.tokens = 3;
+        h.ops.truncate(2);
+    }),
+    (4, |h| {
+        h.tokens = 3;
+        h.operands.truncate(2);
+    }),
+    (4, |h| h.tokens = usize::MAX),
+    (4, |h| h.records.truncate(3)),
+    (4, |h| h.records.clear()),
+    (4, |h| h.answers = 1),
+    (4, |h| h.answers = 0),
+    (4, |h| h.count = 3),
+    (4, |h| h.count = usize::MAX),
+    // twice it is 4 modulo 2^64
+    (4, |h| h.count = usize::MAX / 2 + 3),
+    (2, |h| h.width = 0),
+    (2, |h| h.width = 65),
+    (2, |h| h.width = u32::MAX),
+    (1, |h| h.num_vars = 0),
+    (1, |h| h.num_vars = 7),
+    (1, |h| h.num_vars = 256 + 2),
+    (1, |h| h.num_vars = u32::MAX),
+];
+
+#[test]
+fn rule_refusals() {
+    // v0 v1 & of 1 with all bits and of 1 with 2: nonzero, zero
+    assert_eq!(HandedRule::good().run(1), Ok(0b110));
+    for (place, (refused, fault)) in RULE_FAULTS.iter().enumerate() {
+        let mut handed = HandedRule::good();
+        fault(&mut handed);
+        assert_eq!(handed.number(), *refused, "fault {place}");
+    }
+}
+
+/// The least number counts: two faults of different numbers.
+#[test]
+fn rule_faults_at_once() {
+    for (place, (greater, first)) in RULE_FAULTS.iter().enumerate() {
+        for (least, second) in RULE_FAULTS.iter().filter(|(least, _)| least < greater) {
+            let mut handed = HandedRule::good();
+            first(&mut handed);
+            second(&mut handed);
+            assert_eq!(handed.number(), *least, "fault {place}, {least}");
+        }
+    }
+}
+
+/// All of them at once, and one number less after the other.
+#[test]
+fn rule_faults_of_every_number() {
+    let mut handed = HandedRule::good();
+    for number_left in [10, 6, 4, 2, 1] {
+        let of_number = |(number, _): &&RuleFault| *number == number_left;
+        let (_, fault) = RULE_FAULTS.iter().find(of_number).expect("it has a fault");
+        fault(&mut handed);
+        assert_eq!(handed.number(), number_left);
+    }
+}
+
+/// 10 exactly if M isn't 1 to W or W isn't 1 to 64, with records and without.
+#[test]
+fn rule_windows() {
+    let mut handed = HandedRule::good();
+    for least in 0..70 {
+        for records in 0..70 {
+            handed.window = Window { least, records };
+            let fit = (1..=64).contains(&records) && (1..=records).contains(&least);
+            for count in [0, 2] {
+                handed.count = count;
+                assert_eq!(handed.number(), if fit { 0 } else { 10 });
+            }
+        }
+    }
+}
+
+/// Arrays that are just long enough, or empty where nothing is needed.
+#[test]
+fn rule_arrays_as_long_as_needed() {
+    for num_vars in 1..=6 {
+        let mut handed = HandedRule::good();
+        handed.num_vars = num_vars;
+        handed.operands[1] = 0;
+        for count in [0, 1, 15, 16, 17, 33] {
+            let words = num_vars as usize * count;
+            handed.count = count;
+            (handed.records, handed.answers) = (vec![7; words], count);
+            assert_eq!(handed.number(), 0);
+            if count > 0 {
+                handed.answers = count - 1;
+                assert_eq!(handed.number(), 4);
+                handed.answers = count;
+                handed.records.pop();
+                assert_eq!(handed.number(), 4);
+            }
+        }
+    }
+}
+
+/// A rule is refused as a call with no records is, and a good one refuses slices that are no whole number of records, and too few places.
+#[test]
+fn owned_rule_refusals() {
+    for (place, (_, fault)) in RULE_FAULTS.iter().enumerate() {
+        let mut handed = HandedRule::good();
+        fault(&mut handed);
+        handed.count = 0;
+        let tokens = handed.tokens.min(handed.ops.len());
+        let Some(operands) = handed.operands.get(..tokens) else {
+            continue;
+        };
+        handed.tokens = tokens;
+        let formula = Formula::new(&handed.ops[..tokens], operands).expect("as many of each");
+        let made = Rule::new(handed.num_vars, handed.width, formula, handed.window);
+        let refused = made.err().map_or(0, |error| error.refusal().number());
+        assert_eq!(refused, handed.number(), "fault {place}");
+    }
+    let handed = HandedRule::good();
+    let formula = Formula::new(&handed.ops[..3], &handed.operands[..3]).expect("as many of each");
+    let mut rule = Rule::new(2, 8, formula, handed.window).expect("in range");
+    rule.resume(0b101);
+    for words in [1, 3, 31, 33, 63] {
+        let (records, mut answers) = (vec![7; words], [FILL; 64]);
+        assert_eq!(number(rule.feed(&records)), 4);
+        assert_eq!(number(rule.feed_into(&records, &mut answers)), 4);
+        assert_eq!(number(rule.feed_one(&records)), 4);
+        assert_eq!(answers, [FILL; 64]);
+    }
+    for (words, places) in [(2, 0), (4, 1), (64, 31)] {
+        let (records, mut answers) = (vec![7; words], vec![FILL; places]);
+        assert_eq!(number(rule.feed_into(&records, &mut answers)), 4);
+        assert_eq!(answers, vec![FILL; places]);
+    }
+    for words in [0, 4] {
+        assert_eq!(number(rule.feed_one(&vec![7; words])), 4);
+    }
+    assert_eq!(rule.state(), 0b101);
+    assert_eq!((rule.feed(&[]), rule.state()), (Ok(vec![]), 0b101));
+    assert_eq!((rule.feed(&[7, 7]), rule.state()), (Ok(vec![true]), 0b1011));
 }
 
 #[test]

@@ -229,7 +229,7 @@ fn refusals_by_number() {
             .starts_with(&format!("refused {number}: ")));
         assert_eq!(
             matches!(refusal, Refusal::Other(_)),
-            !(1..=9).contains(&number)
+            !(1..=10).contains(&number)
         );
     }
 }

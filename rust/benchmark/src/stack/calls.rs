@@ -3,10 +3,10 @@
 use std::fmt::Write;
 use std::hint::black_box;
 
-use simjaldek::lent::{self, Tokens};
+use simjaldek::lent::{self, Records, Tokens};
 use simjaldek::{
     bitmask, AtomSlot, Bank, Completion, Cost, Formula, FormulaBuf, Gate, Index, Points, Product,
-    Row, FORMULA_TOKENS_MAX, PAIRS_MAX,
+    Row, Window, FORMULA_TOKENS_MAX, PAIRS_MAX,
 };
 
 use crate::setting::{BankBuffers, IndexBuffers};
@@ -28,9 +28,11 @@ const NUM_VARS: u32 = 6;
 const WIDTH: u32 = 64;
 /// The listing program's largest limit.
 const LISTED_MAX: usize = 500;
+/// Records of a rule.
+const RULE_RECORDS: usize = 95;
 
 /// All exports, in the library's order; `empty`, which makes no call, comes first.
-pub const CALLS: [Call; 31] = [
+pub const CALLS: [Call; 32] = [
     call("empty", "", || Box::new(|| ())),
     call("product_search", FULL_INDEX, product_search),
     call("residual_search", FULL_INDEX, residual_search),
@@ -46,6 +48,11 @@ pub const CALLS: [Call; 31] = [
         "draw_formula",
         "six variables, width 64, limit 64",
         draw_formula,
+    ),
+    call(
+        "run_rule",
+        "64 tokens, depth 64 and 33 each way, 95 records",
+        run_rule,
     ),
     call("make_probe_points", "six variables", || {
         Box::new(|| assert!(lent::probe_points(NUM_VARS, WIDTH).is_ok()))
@@ -174,6 +181,23 @@ fn draw_formula() -> Work {
             let drawn = lent::draw_formula(state, NUM_VARS, WIDTH, limit, &mut ops, &mut operands);
             state = drawn.expect("in range").state;
         }
+    })
+}
+
+/// Whole sixteens of records, and fifteen more.
+fn run_rule() -> Work {
+    with_formulas(|tokens| {
+        let window = Window {
+            least: 64,
+            records: 64,
+        };
+        let records = Records {
+            count: RULE_RECORDS,
+            words: &[7; NUM_VARS as usize * RULE_RECORDS],
+        };
+        let mut answers = [0; RULE_RECORDS];
+        let ran = lent::run_rule(NUM_VARS, WIDTH, tokens, window, 0, records, &mut answers);
+        assert!(ran.is_ok());
     })
 }
 

@@ -86,7 +86,7 @@ fn row_refusal(handed: &Handed, points: usize) -> u64 {
 }
 
 /// A formula over the variables, damaged in none, one or several ways.
-fn damaged(inputs: &mut Inputs, num_vars: u32, good: u32, width: u32) -> Handed {
+pub fn damaged(inputs: &mut Inputs, num_vars: u32, good: u32, width: u32) -> Handed {
     let variables = u64::from(num_vars.clamp(1, 6));
     let (formula, words) = random_formula(inputs, variables, good);
     let ops: Vec<u64> = formula.ops.iter().copied().map(u64::from).collect();

@@ -6,11 +6,13 @@ mod formulas;
 mod indexes;
 mod loads;
 mod products;
+mod rules;
 mod searches;
 mod words;
 
 pub use loads::draw;
 pub use products::product;
+pub use rules::rule;
 pub use searches::residual;
 
 use oracle::inputs::Inputs;
@@ -33,6 +35,7 @@ pub fn compare(inputs: &mut Inputs, report: &mut Report) {
         searches::residual(inputs, report);
         formulas::compare(inputs, report);
         loads::draw(inputs, report);
+        rules::rule(inputs, report);
     }
     words::compare(inputs, report);
 }

@@ -34,6 +34,16 @@ pub fn eval(formula: &Formula, width: u32, words: &[u64]) -> u64 {
     Evaluator::from_expr(&expr_of(formula), width).eval(words)
 }
 
+/// `Evaluator::from_expr` once, then `eval` for each point.
+pub fn evals<'a>(
+    formula: &Formula,
+    width: u32,
+    points: impl Iterator<Item = &'a [u64]>,
+) -> Vec<u64> {
+    let evaluator = Evaluator::from_expr(&expr_of(formula), width);
+    points.map(|words| evaluator.eval(words)).collect()
+}
+
 /// `compute_cost` of expr_cost.rs.
 pub fn compute_cost(formula: &Formula) -> Cost {
     cost_numbers(crate::core::expr_cost::compute_cost(&expr_of(formula)).cost)

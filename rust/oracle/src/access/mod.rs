@@ -15,7 +15,7 @@ mod search;
 use super::{ProbeVals, ALL_GATES, N_PROBES};
 
 pub use bank::{bank, AtomView, Pool};
-pub use formulas::{compute_cost, eval, expr_of, is_better, Cost, Formula};
+pub use formulas::{compute_cost, eval, evals, expr_of, is_better, Cost, Formula};
 pub use index::{index, IndexView, Inner};
 pub use least::{count_products_over, least_product_over, Opcodes};
 pub use residual::{completion_over, completions, Completion, Part};

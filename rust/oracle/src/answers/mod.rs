@@ -10,11 +10,12 @@ mod loads;
 mod malformed;
 mod probe;
 mod residuals;
+mod rules;
 mod searched;
 mod searches;
 
 /// The names of the data files.
-pub const NAMES: [&str; 8] = [
+pub const NAMES: [&str; 9] = [
     "probe",
     "formulas",
     "banks",
@@ -23,6 +24,7 @@ pub const NAMES: [&str; 8] = [
     "residuals",
     "listings",
     "loads",
+    "rules",
 ];
 
 /// The data file of that name, if there is one. The programs' texts hold bytes of any kind.
@@ -36,6 +38,7 @@ pub fn data_file(name: &str) -> Option<Vec<u8>> {
         "residuals" => Some(residuals::data_file()),
         "listings" => Some(listings::data_file()),
         "loads" => Some(loads::data_file()),
+        "rules" => Some(rules::data_file()),
         _ => None,
     }
 }

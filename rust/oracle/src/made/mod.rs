@@ -1,8 +1,9 @@
-//! Inputs made at random: formulas of given shapes, points and targets of several styles, rows of few kinds, banks that no build made; and
-//! the indexes of rows.
+//! Inputs made at random: formulas of given shapes, points and targets of several styles, rows of few kinds, banks that no build made,
+//! rules with records that make them fire and not; and the indexes of rows.
 
 pub mod banks;
 pub mod formulas;
 pub mod indexes;
 pub mod lent;
 pub mod rows;
+pub mod rules;

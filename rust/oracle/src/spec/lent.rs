@@ -1,4 +1,4 @@
-//! What is handed to the candidates, to the searches and to the test load, good or not.
+//! What is handed to the candidates, to the searches, to the test load and to rules, good or not.
 
 use crate::access::Row;
 
@@ -8,7 +8,7 @@ use super::index::PAIRS_MAX;
 use super::product::order_list;
 use super::refusals::{
     NONE, REFUSED_COUNT, REFUSED_FORMULA, REFUSED_LENGTH, REFUSED_ORDER, REFUSED_VARS,
-    REFUSED_WIDTH, REFUSED_WORD,
+    REFUSED_WIDTH, REFUSED_WINDOW, REFUSED_WORD,
 };
 
 /// The listed pairs.
@@ -219,6 +219,56 @@ impl DrawFormula {
         } else {
             NONE
         }
+    }
+}
+
+/// What is handed to the call that runs a rule; of the records and of the answers the lengths of their arrays.
+#[derive(Clone, Debug)]
+pub struct RunRule {
+    pub num_vars: u64,
+    pub width: u64,
+    pub count: u64,
+    pub ops: Vec<u64>,
+    pub operands: Vec<u64>,
+    pub m: u64,
+    pub window: u64,
+    pub n: u64,
+    pub records: u64,
+    pub answers: u64,
+}
+
+impl RunRule {
+    /// The table for a rule: 1, 2, 4, 6, 10, the least that applies.
+    pub fn refusal(&self) -> u64 {
+        if !(1..=VARS_MAX).contains(&self.num_vars) {
+            REFUSED_VARS
+        } else if !(1..=64).contains(&self.width) {
+            REFUSED_WIDTH
+        } else if self.is_array_short() {
+            REFUSED_LENGTH
+        } else if !self.is_formula() {
+            REFUSED_FORMULA
+        } else if !(1..=64).contains(&self.window) || !(1..=self.window).contains(&self.m) {
+            REFUSED_WINDOW
+        } else {
+            NONE
+        }
+    }
+
+    fn is_array_short(&self) -> bool {
+        is_short(self.ops.len() as u64, 1, self.count)
+            || is_short(self.operands.len() as u64, 1, self.count)
+            || is_short(self.records, self.num_vars.into(), self.n)
+            || is_short(self.answers, 1, self.n)
+    }
+
+    /// The formula test, for arrays that are long enough.
+    fn is_formula(&self) -> bool {
+        if !(1..=TOKENS_MAX as u64).contains(&self.count) {
+            return false;
+        }
+        let count = self.count as usize;
+        is_formula(self.num_vars, &self.ops[..count], &self.operands[..count])
     }
 }
 

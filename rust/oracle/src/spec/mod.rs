@@ -11,4 +11,5 @@ pub mod load;
 pub mod product;
 pub mod refusals;
 pub mod residual;
+pub mod rule;
 pub mod texts;
