@@ -71,6 +71,7 @@ fn line_same(line: &[u64]) -> bool {
         23 => compare_residuals::lent_residual_same(line),
         24 => compare_loads::draw_same(line),
         25 => compare_texts::head_same(line),
+        26 => compare_rules::rule_same(line),
         _ => false,
     }
 }

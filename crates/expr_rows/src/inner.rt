@@ -5,7 +5,7 @@ use row_gates::ROW_WORDS;
 ghost use mathlib.Core.Path.{_≡_};
 ghost use Prim.Native.Nat.{ℕ, _+_, _-_, _*_, _%_, _^_, _≤_, _<_};
 ghost use lib.ListN.{length, getD};
-ghost use Rattle.arrays.specs.Parts.{partAt, putPart};
+ghost use Rattle.arrays.specs.Parts.{partAt};
 ghost use Rattle.expr.specs.Formula.{tokens};
 ghost use Rattle.expr_eval.specs.Value.{valueAlg, valueOf};
 ghost use Rattle.expr_rows.specs.Rows.{leaves, Takes, RowsReady};
@@ -53,16 +53,6 @@ fn token_row(stack: &[u64], sp: usize, t: Token, w: u32, nv: usize, records: &[u
     }
 }
 
-// A row in its place on the stack.
-fn put_row(stack: &mut [u64], at: usize, row: [u64; 16])
-    requires { ⌜ 16 * at + 16 ≤ length (now stack) ⌝ }
-    ensures { λ _. ⌜ now (stack .exit) ≡ putPart 16 (now (stack .entry)) at row ⌝ }
-{
-    let from = ROW_WORDS * at;
-    let end = from + ROW_WORDS;
-    row_lent::inner::write_row(&mut stack[from..end], row);
-}
-
 // The values of a formula that has passed the test at sixteen records of nv words. What the stack holds before and after doesn't matter.
 pub fn eval_row(
     stack: &mut [u64],
@@ -82,7 +72,7 @@ pub fn eval_row(
         let t = expr::token_at(ops, operands, i);
         let row = token_row(stack, sp, t, w, nv, records);
         let base = sp - expr::takes(t);
-        put_row(stack, base, row);
+        row_lent::inner::put_row(stack, base, row);
         sp = base + 1;
         i += 1;
     }

@@ -36,14 +36,12 @@ fn gate_of_rows(atoms: &[u64], b: AtomSlot, c: AtomSlot, g: Gate, w: u32) -> [u6
     row
 }
 
-// Row n of the pairs' rows: its own sixteen words are lent to the row writer.
+// Row n of the pairs' rows.
 fn put_row(listed: &mut [u64], n: PairSlot, row: [u64; 16])
     requires { ⌜ 16 * n .0 + 16 ≤ length (now listed) ⌝ }
     ensures { λ _. ⌜ now (listed .exit) ≡ putPart 16 (now (listed .entry)) (n .0) row ⌝ }
 {
-    let at = ROW_WORDS * n.0 as usize;
-    let end = at + ROW_WORDS;
-    row_lent::inner::write_row(&mut listed[at..end], row);
+    row_lent::inner::put_row(listed, n.0 as usize, row);
 }
 
 // A pair's three words.

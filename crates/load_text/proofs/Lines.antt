@@ -13,7 +13,8 @@ use Rattle.expr.specs.Formula.{opcodeOf, operandOf, tokens}
 use Rattle.text_print.specs.Text.{formulaLine}
 use Rattle.text_print.specs.Printing.{Wrote}
 use Rattle.text_print.proofs.Decimals.{then, nothing, reads, wrote-length}
-use Rattle.load_draw.specs.Draw.{Drawn, formulaFrom, loadFrom, laid}
+use Rattle.arrays.specs.Lists.{laid}
+use Rattle.load_draw.specs.Draw.{Drawn, formulaFrom, loadFrom}
 use Rattle.load_draw.specs.Steps.{Ready}
 use Rattle.load_draw.proofs.Drawing.{laid-reads}
 use Rattle.load_text.specs.declared.Load.{Load}

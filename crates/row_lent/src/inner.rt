@@ -3,7 +3,7 @@ use row_gates::ROW_WORDS;
 ghost use mathlib.Core.Path.{_≡_};
 ghost use Prim.Native.Nat.{_+_, _*_, _^_, _≤_};
 ghost use lib.ListN.{length};
-ghost use Rattle.arrays.specs.Parts.{partAt};
+ghost use Rattle.arrays.specs.Parts.{partAt, putPart};
 ghost use Rattle.row_gates.specs.Gates.{sameRow};
 ghost use Rattle.row_lent.specs.Range.{reaches};
 
@@ -24,6 +24,15 @@ pub fn write_row(part: &mut [u64], row: [u64; 16])
     ensures { λ _. ⌜ now (part .exit) ≡ row ⌝ }
 {
     arrays::inner::copy_words(part, &row);
+}
+
+// The row at `slot` of lent rows: its own sixteen words are lent to the row writer.
+pub fn put_row(rows: &mut [u64], slot: usize, row: [u64; 16])
+    requires { ⌜ 16 * slot + 16 ≤ length (now rows) ⌝ }
+    ensures { λ _. ⌜ now (rows .exit) ≡ putPart 16 (now (rows .entry)) slot row ⌝ }
+{
+    let base = ROW_WORDS * slot;
+    write_row(&mut rows[base..base + ROW_WORDS], row);
 }
 
 // Whether row `slot` of lent rows is `row`, in all sixteen words. Stops at the first that differs.

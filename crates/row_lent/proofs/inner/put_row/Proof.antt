@@ -1,16 +1,16 @@
--- `expr_rows::inner::put_row` meets its contract: the row's own sixteen words are lent. Assumes nothing.
+-- `row_lent::inner::put_row` meets its contract: the row's own sixteen words are lent. Assumes nothing.
 use mathlib.Core.Path.{ap, _∙_}
 use borrow.Author.Needs.{needs}
 use Rattle.arrays.specs.Parts.{putPart}
 use Rattle.arrays.proofs.Parts.{put-is}
-use Rattle.expr_rows.proofs.inner.put_row.Statement.{statement}
-use Rattle.expr_rows.proofs.inner.put_row.Tie as tie
+use Rattle.row_lent.proofs.inner.put_row.Statement.{statement}
+use Rattle.row_lent.proofs.inner.put_row.Tie as tie
 
-mul-from : tie.Need-mul-from
-mul-from c = search needs
+mul-base : tie.Need-mul-base
+mul-base c = search needs
 
-add-end : tie.Need-add-end
-add-end c = search needs
+add-write-row : tie.Need-add-write-row
+add-write-row c = search needs
 
 mul-write-row : tie.Need-mul-write-row
 mul-write-row c = search needs
@@ -33,14 +33,14 @@ same-length c = search needs
 returns : tie.Need-returns
 returns c =
     let a = c .before .before .before .before .before .args in
-    put-is 16 (a .stack .now) (a .at) _ ∙ ap (putPart 16 (a .stack .now) (a .at)) (c .before .before .write-row .ensures)
+    put-is 16 (a .rows .now) (a .slot) _ ∙ ap (putPart 16 (a .rows .now) (a .slot)) (c .before .before .write-row .ensures)
 
 pub put-row-spec : {M : Type 1} → statement M
 put-row-spec =
     tie.close
     (tie.spec
-    mul-from
-    add-end
+    mul-base
+    add-write-row
     mul-write-row
     sub-write-row
     part-write-row-start
