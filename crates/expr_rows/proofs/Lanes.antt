@@ -15,7 +15,6 @@ use Rattle.arrays.specs.Lists.{countUp}
 use Rattle.arrays.specs.Parts.{partAt, putPart}
 use Rattle.arrays.proofs.Lists.{length-count, getD-count, getD-map}
 use Rattle.arrays.proofs.Parts.{length-part, part-within, getD-part, length-put, part-put-same, part-put-other}
-use Rattle.row_gates.specs.declared.Gate.{Gate}
 use Rattle.row_gates.specs.Gates.{gateOf}
 use Rattle.expr.specs.declared.Token.{Token}
 use Rattle.expr.specs.declared.Token.the-variants.{Constant, Variable, Binary, Not, Neg, Bad}

@@ -8,7 +8,7 @@ use native.Mathlib.Omega.{arith}
 use borrow.Author.Tests.{ltb-true}
 use lib.ListN.{length, getD, replicate, length-replicate, getD-replicate}
 use lib.Pow.{pow-pos}
-use Rattle.arith.specs.Word.{modulus, notOf, subOf}
+use Rattle.arith.specs.Word.{modulus, subOf}
 use Rattle.arith.proofs.Remainders.{modulus-is}
 use Rattle.arrays.specs.Parts.{partAt}
 use Rattle.arrays.proofs.Parts.{length-part, getD-part}

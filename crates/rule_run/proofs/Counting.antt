@@ -1,17 +1,15 @@
 -- Laws of sums, of a word by its bits, and of the marks that a state has. Assumes nothing.
 use mathlib.Core.Path.{_≡_, refl, sym, ap, ap₂, _∙_, subst}
-use mathlib.Core.Bool.{Bool, true, false, cond}
-use mathlib.Core.List.{List}
+use mathlib.Core.Bool.{Bool, cond}
 use Prim.Native.Nat.{ℕ, zero, suc, _+_, _-_, _*_, _/_, _%_, _^_, _≤_, _<_}
-use native.Mathlib.Nat.{mod-lt, mod-eq-of-lt, mod-one, pow-suc, mul-comm, mul-add, mul-assoc, mul-one, mul-le-mul-right, one-mul, zero-add, add-comm, div-one}
-use native.Mathlib.Numerals.{add-one}
+use native.Mathlib.Nat.{mod-lt, mod-eq-of-lt, mod-one, pow-suc, mul-assoc, mul-one, mul-le-mul-right, add-comm, div-one}
 use native.Mathlib.Decide.{decLt}
 use native.Mathlib.Omega.{arith}
 use borrow.Author.Tests.{lt-ltb, le-ltb}
 use lib.Arith.{digits-mod}
 use lib.Count.{ones, ones-cat, ones-le}
-use lib.Dec.{leb, ltb}
-use lib.Pow.{pow-pos, pow-mono, shr-shr, mod-pow-add}
+use lib.Dec.{leb}
+use lib.Pow.{pow-pos, shr-shr, mod-pow-add}
 use Rattle.rule_run.specs.Window.{nonzero, sumBelow, bitOf, ago, answerTo, stateAfter}
 
 -- ---- sums

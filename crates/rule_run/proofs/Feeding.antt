@@ -1,6 +1,6 @@
 -- Records taken in one after the other, and the call's refusals. Assumes nothing.
 use mathlib.Core.Path.{_≡_, refl, sym, ap, ap₂, _∙_, subst}
-use mathlib.Core.Bool.{Bool, true, false, not, cond, _||_}
+use mathlib.Core.Bool.{true, false, cond, _||_}
 use mathlib.Core.List.{List, [], _∷_, _++_, map, map-append}
 use Prim.Native.Nat.{ℕ, suc, _+_, _-_, _*_, _/_, _%_, _^_, _≤_, _<_}
 use native.Mathlib.Nat.{le-trans, mul-le-mul-left, div-lt-iff-lt-mul, mul-comm, zero-add}
@@ -15,13 +15,13 @@ use Rattle.arrays.specs.Parts.{partAt}
 use Rattle.arrays.proofs.Lists.{count-add, length-count}
 use Rattle.arrays.proofs.Fill.{laid-more, length-laid}
 use Rattle.limits.specs.Refusal.{badCount, badWidth, outsideOf}
-use Rattle.limits.proofs.Refusals.{refused-here, refused-later, or-here, or-later, passed, within, inside, neither, unless-refused, unless-not}
+use Rattle.limits.proofs.Refusals.{refused-here, refused-later, passed, within, neither, unless-refused, unless-not}
 use Rattle.expr.specs.declared.Token.{Token}
 use Rattle.expr.specs.Formula.{tokens, isFormula}
 use Rattle.expr.specs.Answers.{tooShort, notFormula}
 use Rattle.expr_eval.specs.Value.{valueOf}
 use Rattle.rule_run.specs.declared.RuleState.{RuleState}
-use Rattle.rule_run.specs.Window.{nonzero, markAt, sumBelow, bitOf, answerTo, answersTo, stateAfter, badWindow, tooFew, runRefusal, Ran, ranOr}
+use Rattle.rule_run.specs.Window.{nonzero, markAt, sumBelow, bitOf, answerTo, answersTo, stateAfter, badWindow, tooFew, runRefusal, ranOr}
 use Rattle.rule_run.specs.Steps.{Ready, Fed}
 use Rattle.rule_run.proofs.Counting.{Bits, mark-low, state-none, state-more, answer-more}
 

@@ -1,14 +1,13 @@
 -- The statements of specs/Facts. Assumes nothing.
-use mathlib.Core.Path.{_≡_, refl, sym, ap, ap₂, _∙_, subst}
+use mathlib.Core.Path.{_≡_, refl, sym, ap, ap₂, _∙_}
 use mathlib.Core.Logic.{_⊎_, inl, inr}
-use mathlib.Core.Bool.{Bool, true, false, cond, _||_}
+use mathlib.Core.Bool.{Bool, true, false, cond}
 use mathlib.Core.List.{List, [], _∷_, _++_, map, append-assoc, append-nil}
 use Prim.Native.Nat.{ℕ, zero, suc, _+_, _-_, _*_, _%_, _^_, _≤_, _<_}
 use native.Mathlib.Nat.{zero-div, add-zero, add-suc, mul-zero, mul-add, zero-add}
 use native.Mathlib.Numerals.{add-one}
-use native.Mathlib.Decide.{decLt}
 use native.Mathlib.Omega.{arith}
-use borrow.Author.Tests.{lt-ltb, le-ltb, le-leb, lt-leb}
+use borrow.Author.Tests.{le-ltb, le-leb, lt-leb}
 use lib.Dec.{leb, ltb}
 use lib.ListN.{length, take, drop, length-append}
 use lib.Seq.{take-at, take-all, length-take-le, drop-append-add}
@@ -20,8 +19,8 @@ use Rattle.limits.proofs.Refusals.{or-later, unless-refused, unless-not}
 use Rattle.expr.specs.Formula.{tokens}
 use Rattle.expr_eval.specs.Value.{valueOf}
 use Rattle.rule_run.specs.declared.RuleState.{RuleState}
-use Rattle.rule_run.specs.Window.{nonzero, markAt, sumBelow, bitOf, ago, answerTo, answersTo, stateAfter, tooFew, runRefusal}
-use Rattle.rule_run.specs.Facts.{Call, empty, made, taken, stateOver, answersOver, recordsOver, takenOver, freshCount, uncut, FreshlyCounted, DividedAnywhere}
+use Rattle.rule_run.specs.Window.{nonzero, markAt, sumBelow, bitOf, ago, answerTo, answersTo, stateAfter, runRefusal}
+use Rattle.rule_run.specs.Facts.{Call, made, taken, stateOver, answersOver, recordsOver, takenOver, freshCount, uncut, FreshlyCounted, DividedAnywhere}
 use Rattle.rule_run.proofs.Counting.{Bits, sum-same, ago-here, ago-before, ago-cases, state-bit, state-lt, state-none}
 use Rattle.rule_run.proofs.Feeding.{length-answers, answers-more, marks-low, Passes, passes, ready, refusal-none}
 

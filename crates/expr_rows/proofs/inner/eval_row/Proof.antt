@@ -1,11 +1,10 @@
 -- `expr_rows::inner::eval_row` meets its contract: each lane goes as the evaluator's stack. Assumes nothing.
-use mathlib.Core.Path.{_≡_, sym, ap, _∙_, subst}
+use mathlib.Core.Path.{sym, ap, _∙_, subst}
 use mathlib.Core.List.{List}
-use Prim.Native.Nat.{ℕ, _+_, _-_, _*_, _≤_}
+use Prim.Native.Nat.{ℕ, _+_, _-_, _≤_}
 use native.Mathlib.Omega.{arith}
 use borrow.Author.Needs.{needs}
-use lib.ListN.{length, getD}
-use Rattle.expr.specs.declared.Token.{Token}
+use lib.ListN.{getD}
 use Rattle.expr.specs.Formula.{arity}
 use Rattle.expr_rows.proofs.Lanes.{RowStage, rows-start, rows-low, rows-may, rows-there, rows-on, rows-end}
 use Rattle.expr_rows.proofs.inner.eval_row.Statement.{statement}

@@ -1,14 +1,8 @@
 -- `expr_rows::inner::token_row` meets its contract: a law for each token. Assumes nothing.
-use mathlib.Core.Path.{_≡_, refl, sym, ap, _∙_, subst}
+use mathlib.Core.Path.{refl}
 use mathlib.Core.Logic.{inl, inr}
-use mathlib.Core.Bool.{true}
-use Prim.Native.Nat.{ℕ, _≤_, _<_}
-use native.Mathlib.Omega.{arith}
+use Prim.Native.Nat.{_≤_}
 use borrow.Author.Needs.{needs}
-use borrow.Author.Tests.{ltb-true}
-use Rattle.limits.proofs.Refusals.{true-not-false}
-use Rattle.expr.specs.declared.Token.{Token}
-use Rattle.expr.specs.Formula.{arity, known}
 use Rattle.expr_rows.proofs.Tokens.{takes-one, takes-two, below-count, left-constant, left-variable, left-gate, left-not, left-neg, not-bad}
 use Rattle.expr_rows.proofs.inner.token_row.Statement.{statement}
 use Rattle.expr_rows.proofs.inner.token_row.Tie as tie

@@ -1,6 +1,6 @@
 -- `rule_run::inner::feed` meets its contract: the next answer, and the next state. Assumes nothing.
-use mathlib.Core.Path.{_≡_, sym, ap, ap₂, _∙_, subst}
-use mathlib.Core.Bool.{Bool, cond}
+use mathlib.Core.Path.{sym, ap, _∙_, subst}
+use mathlib.Core.Bool.{cond}
 use Prim.Native.Nat.{ℕ, _+_, _-_, _%_, _^_, _≤_}
 use borrow.Author.Needs.{needs}
 use lib.Dec.{leb}

@@ -1,7 +1,6 @@
 -- `rule_run::inner::mark_of` meets its contract. Assumes nothing.
 use mathlib.Core.Path.{sym, ap}
 use native.Mathlib.Omega.{arith}
-use borrow.Author.Needs.{needs}
 use Rattle.rule_run.specs.Window.{nonzero}
 use Rattle.rule_run.proofs.Counting.{mark-one}
 use Rattle.rule_run.proofs.inner.mark_of.Statement.{statement}

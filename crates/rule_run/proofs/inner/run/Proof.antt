@@ -1,6 +1,5 @@
 -- `rule_run::inner::run` meets its contract: rows, then the rest. Assumes nothing.
-use mathlib.Core.List.{List}
-use Prim.Native.Nat.{ℕ, _*_, _/_}
+use Prim.Native.Nat.{_*_, _/_}
 use native.Mathlib.Omega.{arith}
 use borrow.Author.Needs.{needs}
 use Rattle.expr.specs.Formula.{tokens}
