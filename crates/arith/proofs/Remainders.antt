@@ -1,10 +1,10 @@
 -- Laws of remainders, and of words of w bits for every w. Assumes nothing.
 use mathlib.Core.Path.{_≡_, refl, sym, ap, _∙_}
-use Prim.Native.Nat.{ℕ, _+_, _-_, _*_, _/_, _%_, _^_, _≤_, _<_, min}
-use native.Mathlib.Nat.{le-of-lt, lt-of-le-of-lt, one-mul, mul-comm, mul-assoc, mul-add, add-mul, mul-left-comm, add-assoc, add-comm, add-left-comm, mod-eq-of-lt, mod-add-mod, mul-add-mod-self-right, div-add-mod', mul-le-mul-left, mul-lt-mul-of-pos-right, sub-add-cancel}
+use Prim.Native.Nat.{ℕ, zero, _+_, _-_, _*_, _/_, _%_, _^_, _≤_, _<_, min}
+use native.Mathlib.Nat.{le-of-lt, lt-of-le-of-lt, one-mul, mul-comm, mul-assoc, mul-add, add-mul, mul-left-comm, add-assoc, add-comm, add-left-comm, mod-lt, mod-eq-of-lt, mod-add-mod, add-mod-right, zero-add, mul-add-mod-self-right, div-add-mod', mul-le-mul-left, mul-lt-mul-of-pos-right, sub-add-cancel}
 use native.Mathlib.Omega.{arith}
 use lib.Pow.{pow-pos, pow-lt, split, mod-mod-pow}
-use Rattle.arith.specs.Word.{modulus}
+use Rattle.arith.specs.Word.{modulus, notOf, negOf, subOf}
 
 -- ---- the modulus of a width
 pub width-le : (w : ℕ) → min w 64 ≤ 64
@@ -64,3 +64,13 @@ digits P a1 a0 b1 b0 =
 
 pub halves : (a b : ℕ) → (((a % 2 ^ 32 * (b / 2 ^ 32) + a / 2 ^ 32 * (b % 2 ^ 32)) % 2 ^ 64 * 2 ^ 32) % 2 ^ 64 + a % 2 ^ 32 * (b % 2 ^ 32)) % 2 ^ 64 ≡ (a * b) % 2 ^ 64
 halves a b = digits (2 ^ 32) (a / 2 ^ 32) (a % 2 ^ 32) (b / 2 ^ 32) (b % 2 ^ 32) ∙ (λ i. (split a 32 i * split b 32 i) % 2 ^ 64)
+
+-- Not and Neg as differences: from m - 1, and from 0
+pub sub-from-most : (m b : ℕ) → zero < m → subOf m (m - 1) b ≡ notOf m b
+sub-from-most m b h =
+    let r = mod-lt b h in
+    let e : m - 1 + (m - b % m) ≡ m - 1 - b % m + m = omega arith in
+    ap (λ (n : ℕ). n % m) e ∙ add-mod-right (m - 1 - b % m) m ∙ mod-eq-of-lt (omega arith)
+
+pub sub-from-zero : (m b : ℕ) → subOf m 0 b ≡ negOf m b
+sub-from-zero m b = ap (λ (n : ℕ). n % m) (zero-add (m - b % m))

@@ -24,12 +24,13 @@ pub getD-part : (s : ℕ) (l : List ℕ) (k j : ℕ) → j < s → getD (partAt 
 unfolding partAt
 getD-part s l k j h = getD-take s (drop (s * k) l) j 0 h ∙ getD-drop (s * k) l j 0
 
--- part j of the t parts that lie in a part of t times their size
+-- from within the first of a list
 drop-take : (a b : ℕ) (l : List ℕ) → drop a (take (a + b) l) ≡ take b (drop a l)
 drop-take zero b l = ap (λ (n : ℕ). take n l) (zero-add b)
 drop-take (suc a) b [] = ap (drop (suc a)) (take-nil (suc a + b)) ∙ sym (take-nil b)
 drop-take (suc a) b (x ∷ l) = ap (λ (n : ℕ). drop (suc a) (take n (x ∷ l))) (suc-add a b) ∙ drop-take a b l
 
+-- part j of the t parts that lie in a part of t times their size
 pub part-part : (s t : ℕ) (l : List ℕ) (k j : ℕ) → j < t → partAt s (partAt (t * s) l k) j ≡ partAt s l (t * k + j)
 unfolding partAt
 part-part s t l k j h =

@@ -1,4 +1,4 @@
--- Lists: counting up, membership, what passes a test. Assumes nothing.
+-- Lists: counting up, what is laid over an array's first places, membership, what passes a test. Assumes nothing.
 use mathlib.Core.Path.{_≡_}
 use mathlib.Core.Bool.{Bool, cond}
 use mathlib.Core.Logic.{_⊎_}
@@ -12,7 +12,7 @@ unfoldable pub countUp : ℕ → ℕ → List ℕ
 countUp i zero = []
 countUp i (suc n) = i ∷ countUp (suc i) n
 
--- 01, From heap ..: places beyond the count in a lent output stay unchanged. What an array holds from its start on, and after it what it held
+-- 01, From heap ..: places beyond the count in a lent output stay unchanged. xs from the start of the array on, and after them what it held
 abbrev pub laid : List ℕ → List ℕ → List ℕ
 laid xs old = xs ++ drop (length xs) old
 

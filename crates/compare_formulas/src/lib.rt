@@ -15,11 +15,6 @@ struct Text {
     end: usize,
 }
 
-// A number of the data as an opcode; the data holds none above 255.
-fn opcode(x: u64) -> u8 {
-    if x < 255 { x as u8 } else { 255 }
-}
-
 // How many numbers a token takes: constants and variables have an operand.
 fn numbers_of(op: u64) -> usize
     ensures { λ r. ⌜ r ≤ 2 ⌝ }
@@ -46,7 +41,7 @@ fn read_tokens(line: &[u64], count: usize) -> Text
     let mut i: usize = 0;
     while i < count {
         let op = compare_lines::number_at(line, end);
-        ops[i] = opcode(op);
+        ops[i] = compare_lines::opcode(op);
         operands[i] = operand_at(line, op, end + 1);
         end += numbers_of(op);
         i += 1;
@@ -127,7 +122,7 @@ fn opcodes_at(line: &[u64], from: usize, n: usize) -> [u8; 80]
     let mut ops = [0u8; PLACES];
     let mut i: usize = 0;
     while i < n {
-        ops[i] = opcode(line[from + i]);
+        ops[i] = compare_lines::opcode(line[from + i]);
         i += 1;
     }
     ops

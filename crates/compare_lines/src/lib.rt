@@ -13,6 +13,11 @@ pub const OLD_WORD: u64 = 0xa5a5_a5a5_5a5a_5a5a;
 // What a digest of no numbers is.
 const DIGEST: u64 = 0xcbf2_9ce4_8422_2325;
 
+// A number of the data as an opcode; the data holds none above 255.
+pub fn opcode(x: u64) -> u8 {
+    if x < 255 { x as u8 } else { 255 }
+}
+
 // A width or a count as a u32; the data holds none that is larger.
 pub fn narrow(x: u64) -> u32 {
     if x <= 0xffff_ffff {

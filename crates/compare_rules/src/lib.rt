@@ -72,16 +72,11 @@ fn run_same(line: &[u64], a: usize, b: usize, c: usize) -> bool
     answers_are(&answers, &line[c..], answered(line))
 }
 
-// A number of the data as an opcode; the data holds none above 255.
-fn opcode(x: u64) -> u8 {
-    if x < 255 { x as u8 } else { 255 }
-}
-
 // Opcodes into the first places, 0 past them.
 fn put_opcodes(s: &mut [u8], opcodes: &[u64]) {
     let mut i: usize = 0;
     while i < s.len() {
-        s[i] = opcode(compare_lines::number_at(opcodes, i));
+        s[i] = compare_lines::opcode(compare_lines::number_at(opcodes, i));
         i += 1;
     }
 }

@@ -3,14 +3,14 @@ use mathlib.Core.Path.{_≡_, refl, sym, ap, ap₂, _∙_, subst}
 use mathlib.Core.Logic.{_⊎_, inl, inr}
 use mathlib.Core.Bool.{true}
 use mathlib.Core.List.{List, map}
-use Prim.Native.Nat.{ℕ, _+_, _-_, _*_, _^_, _%_, _≤_, _<_}
-use native.Mathlib.Nat.{zero-add, mod-lt, mod-eq-of-lt, add-mod-right}
+use Prim.Native.Nat.{ℕ, _+_, _-_, _*_, _^_, _≤_, _<_}
+use native.Mathlib.Nat.{zero-add}
 use native.Mathlib.Omega.{arith}
 use native.Mathlib.Decide.{decLt}
 use borrow.Author.Tests.{lt-ltb}
 use lib.ListN.{length, getD, set, length-map, length-set}
 use lib.Seq.{ext-getD, getD-set-same, getD-set-other}
-use Rattle.arith.specs.Word.{notOf, negOf, subOf}
+use Rattle.arith.specs.Word.{notOf, negOf}
 use Rattle.arrays.specs.Lists.{countUp}
 use Rattle.arrays.specs.Parts.{partAt, putPart}
 use Rattle.arrays.proofs.Lists.{length-count, getD-count, getD-map}
@@ -43,7 +43,18 @@ module _ (j : ℕ) (stack : List ℕ) (k : ℕ) (row : List ℕ) (room : length 
   fits : 16 * k + 16 ≤ length stack
   fits = omega arith
 
+  other : (t : ℕ) → t < 64 → (t < k) ⊎ (k < t) → (t ≡ k → ⊥) → getD (laneOf j (putPart 16 stack k row)) t 0 ≡ getD (set (laneOf j stack) k (getD row j 0)) t 0
+  other t h apart not-k =
+      lane-at j (putPart 16 stack k row) t h
+      ∙ sym (getD-part 16 (putPart 16 stack k row) t j lane)
+      ∙ ap (λ (l : List ℕ). getD l j 0) (part-put-other 16 stack k row fits wide t apart)
+      ∙ getD-part 16 stack t j lane
+      ∙ sym (lane-at j stack t h)
+      ∙ sym (getD-set-other (laneOf j stack) k t (getD row j 0) 0 not-k)
+
   place : (t : ℕ) → t < 64 → (t < k) ⊎ ((t ≡ k) ⊎ (k < t)) → getD (laneOf j (putPart 16 stack k row)) t 0 ≡ getD (set (laneOf j stack) k (getD row j 0)) t 0
+  place t h (inl l) = other t h (inl l) (λ e. omega arith)
+  place t h (inr (inr l)) = other t h (inr l) (λ e. omega arith)
   place t h (inr (inl e)) =
       lane-at j (putPart 16 stack k row) t h
       ∙ sym (getD-part 16 (putPart 16 stack k row) t j lane)
@@ -51,20 +62,6 @@ module _ (j : ℕ) (stack : List ℕ) (k : ℕ) (row : List ℕ) (room : length 
       ∙ ap (λ (l : List ℕ). getD l j 0) (part-put-same 16 stack k row fits wide)
       ∙ sym (getD-set-same (laneOf j stack) k (getD row j 0) 0 (omega (arith, lane-long j stack)))
       ∙ ap (λ (n : ℕ). getD (set (laneOf j stack) k (getD row j 0)) n 0) (sym e)
-  place t h (inl l) =
-      lane-at j (putPart 16 stack k row) t h
-      ∙ sym (getD-part 16 (putPart 16 stack k row) t j lane)
-      ∙ ap (λ (l : List ℕ). getD l j 0) (part-put-other 16 stack k row fits wide t (inl l))
-      ∙ getD-part 16 stack t j lane
-      ∙ sym (lane-at j stack t h)
-      ∙ sym (getD-set-other (laneOf j stack) k t (getD row j 0) 0 (λ e. omega arith))
-  place t h (inr (inr l)) =
-      lane-at j (putPart 16 stack k row) t h
-      ∙ sym (getD-part 16 (putPart 16 stack k row) t j lane)
-      ∙ ap (λ (l : List ℕ). getD l j 0) (part-put-other 16 stack k row fits wide t (inr l))
-      ∙ getD-part 16 stack t j lane
-      ∙ sym (lane-at j stack t h)
-      ∙ sym (getD-set-other (laneOf j stack) k t (getD row j 0) 0 (λ e. omega arith))
 
   side : (t : ℕ) → (t < k) ⊎ ((t ≡ k) ⊎ (k < t))
   side t = elim (decLt t k) [ yes a ↦ inl a | no a ↦ elim (decLt k t) [ yes b ↦ inr (inr b) | no b ↦ inr (inl (omega arith)) ] ]
@@ -174,13 +171,3 @@ module _ (w nv count : ℕ) (ops operands records : List ℕ) where
         getD-part 16 stack 0 j lane
         ∙ sym (lane-at j stack 0 (omega arith))
         ∙ stage-end w (partAt nv records j) count ops operands (laneOf j stack) sp i (s .lanes j lane) h
-
--- ---- Not and Neg as differences: 2^w - 1 - b, and 0 - b
-pub not-is : (m b : ℕ) → 0 < m → subOf m (m - 1) b ≡ notOf m b
-not-is m b h =
-    let r = mod-lt b h in
-    let e : m - 1 + (m - b % m) ≡ m - 1 - b % m + m = omega arith in
-    ap (λ (n : ℕ). n % m) e ∙ add-mod-right (m - 1 - b % m) m ∙ mod-eq-of-lt (omega arith)
-
-pub neg-is : (m b : ℕ) → subOf m 0 b ≡ negOf m b
-neg-is m b = ap (λ (n : ℕ). n % m) (zero-add (m - b % m))

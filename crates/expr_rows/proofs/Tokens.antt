@@ -9,7 +9,7 @@ use borrow.Author.Tests.{ltb-true}
 use lib.ListN.{length, getD, replicate, length-replicate, getD-replicate}
 use lib.Pow.{pow-pos}
 use Rattle.arith.specs.Word.{modulus, subOf}
-use Rattle.arith.proofs.Remainders.{modulus-is}
+use Rattle.arith.proofs.Remainders.{modulus-is, sub-from-most, sub-from-zero}
 use Rattle.arrays.specs.Parts.{partAt}
 use Rattle.arrays.proofs.Parts.{length-part, getD-part}
 use Rattle.limits.proofs.Refusals.{true-not-false}
@@ -22,7 +22,6 @@ use Rattle.expr.specs.declared.Token.the-variants.{Constant, Variable, Binary, 
 use Rattle.expr.specs.Formula.{arity, known}
 use Rattle.expr_eval.specs.Value.{valueAlg}
 use Rattle.expr_rows.specs.Rows.{leaves}
-use Rattle.expr_rows.proofs.Lanes.{not-is, neg-is}
 
 -- ---- what a token asks, by its kind
 pub takes-two : (t : Token) (sp : ℕ) (g : Gate) → t ≡ Binary g → arity t ≤ sp → 2 ≤ sp
@@ -92,10 +91,10 @@ module _ (w nv : ℕ) (stack records : List ℕ) (sp : ℕ) (t : Token) (narrow 
         alike Not e _ j
         (difference j h
         ∙ ap (λ (n : ℕ). subOf (2 ^ w) n (getD stack (16 * (sp - 1) + j) 0)) (v ∙ ap (λ (m : ℕ). m - 1) (modulus-is w narrow))
-        ∙ not-is (2 ^ w) (getD stack (16 * (sp - 1) + j) 0) (pow-pos w))
+        ∙ sub-from-most (2 ^ w) (getD stack (16 * (sp - 1) + j) 0) (pow-pos w))
 
     pub left-neg : t ≡ Neg → x ≡ 0 → Left row
     unfolding leaves valueAlg
     left-neg e v j h =
         alike Neg e _ j
-        (difference j h ∙ ap (λ (n : ℕ). subOf (2 ^ w) n (getD stack (16 * (sp - 1) + j) 0)) v ∙ neg-is (2 ^ w) (getD stack (16 * (sp - 1) + j) 0))
+        (difference j h ∙ ap (λ (n : ℕ). subOf (2 ^ w) n (getD stack (16 * (sp - 1) + j) 0)) v ∙ sub-from-zero (2 ^ w) (getD stack (16 * (sp - 1) + j) 0))

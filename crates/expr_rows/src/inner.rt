@@ -53,7 +53,7 @@ fn token_row(stack: &[u64], sp: usize, t: Token, w: u32, nv: usize, records: &[u
     }
 }
 
-// The values of a formula that has passed the test at sixteen records of nv words. What the stack holds before and after doesn't matter.
+// The values, at sixteen records of nv words, of a formula that has passed the test. What the stack holds before and after doesn't matter.
 pub fn eval_row(
     stack: &mut [u64],
     w: u32,

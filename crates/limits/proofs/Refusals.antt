@@ -77,6 +77,13 @@ enough s n k h e = elim (decLt n (k * s)) [
   | no m ↦ omega (arith, mul-comm k s)
 ]
 
+-- too short, by parts or by elements
+pub parts-few : (n s k : ℕ) → 0 < s → ltb (n / s) k ≡ ltb n (s * k)
+parts-few n s k h = elim (decLt (n / s) k) [
+  | yes l ↦ lt-ltb (n / s) k l ∙ sym (lt-ltb n (s * k) (omega (arith, div-lt-iff-lt-mul {k = s} {x = n} {y = k} h .0 l, mul-comm k s)))
+  | no l ↦ le-ltb (n / s) k (omega arith) ∙ sym (le-ltb n (s * k) (enough s n k h (le-ltb (n / s) k (omega arith))))
+]
+
 -- ---- the answer
 pub unless-refused : {A : Type 0} (n : ℕ) (a b : A) → 0 < n → unlessRefused n a b ≡ b
 unless-refused n a b h = ap (λ (t : Bool). cond t b a) (lt-ltb 0 n h)

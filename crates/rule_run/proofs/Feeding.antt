@@ -2,12 +2,11 @@
 use mathlib.Core.Path.{_≡_, refl, sym, ap, ap₂, _∙_, subst}
 use mathlib.Core.Bool.{true, false, cond, _||_}
 use mathlib.Core.List.{List, [], _∷_, _++_, map, map-append}
-use Prim.Native.Nat.{ℕ, suc, _+_, _-_, _*_, _/_, _%_, _^_, _≤_, _<_}
-use native.Mathlib.Nat.{le-trans, mul-le-mul-left, div-lt-iff-lt-mul, mul-comm, zero-add}
+use Prim.Native.Nat.{ℕ, suc, _+_, _-_, _*_, _%_, _^_, _≤_, _<_}
+use native.Mathlib.Nat.{le-trans, mul-le-mul-left, zero-add}
 use native.Mathlib.Numerals.{add-one}
-use native.Mathlib.Decide.{decLt}
 use native.Mathlib.Omega.{arith}
-use borrow.Author.Tests.{lt-ltb, le-ltb, ltb-false, not-false}
+use borrow.Author.Tests.{ltb-false, not-false}
 use lib.Dec.{leb, ltb}
 use lib.ListN.{length, set, length-map}
 use Rattle.arrays.specs.Lists.{countUp, laid}
@@ -89,16 +88,6 @@ unfolding markAt
 mark-is nv w ts records words k v e ev = ap nonzero (ap (λ (l : List ℕ). valueOf w l ts) (sym e) ∙ sym ev)
 
 -- ---- refusals
--- fewer than n parts of nv words
-pub parts-few : (long nv n : ℕ) → 1 ≤ nv → ltb (long / nv) n ≡ ltb long (nv * n)
-parts-few long nv n h = elim (decLt (long / nv) n) [
-  | yes l ↦ lt-ltb (long / nv) n l ∙ sym (lt-ltb long (nv * n) (omega (arith, div-lt-iff-lt-mul {k = nv} {x = long} {y = n} h .0 l, mul-comm n nv)))
-  | no l ↦ le-ltb (long / nv) n (omega arith) ∙ sym (le-ltb long (nv * n) (elim (decLt long (nv * n)) [
-    | yes k ↦ absurd (l (div-lt-iff-lt-mul {k = nv} {x = long} {y = n} h .1 (omega (arith, mul-comm n nv))))
-    | no k ↦ omega arith
-  ]))
-]
-
 -- every test passed
 pub record Passes (nv w count : ℕ) (ops operands : List ℕ) (m window n : ℕ) (records answers : List ℕ) : Type 0 where
   pub vars : badCount nv ≡ false

@@ -1,4 +1,4 @@
--- The laws of this crate, which the crates above cite too.
+-- The laws of this crate.
 pub mod Counting
 pub mod Feeding
 pub mod Runs

@@ -1,10 +1,10 @@
 -- The statements of specs/Facts. Assumes nothing.
-use mathlib.Core.Path.{_≡_, refl, sym, ap, ap₂, _∙_}
-use mathlib.Core.Logic.{_⊎_, inl, inr}
+use mathlib.Core.Path.{_≡_, refl, sym, ap, ap₂, _∙_, subst}
+use mathlib.Core.Logic.{inl, inr}
 use mathlib.Core.Bool.{Bool, true, false, cond}
 use mathlib.Core.List.{List, [], _∷_, _++_, map, append-assoc, append-nil}
 use Prim.Native.Nat.{ℕ, zero, suc, _+_, _-_, _*_, _%_, _^_, _≤_, _<_}
-use native.Mathlib.Nat.{zero-div, add-zero, add-suc, mul-zero, mul-add, zero-add}
+use native.Mathlib.Nat.{eq-zero-or-pos, zero-div, add-zero, add-suc, mul-zero, mul-add, zero-add}
 use native.Mathlib.Numerals.{add-one}
 use native.Mathlib.Omega.{arith}
 use borrow.Author.Tests.{le-ltb, le-leb, lt-leb}
@@ -20,7 +20,7 @@ use Rattle.expr.specs.Formula.{tokens}
 use Rattle.expr_eval.specs.Value.{valueOf}
 use Rattle.rule_run.specs.declared.RuleState.{RuleState}
 use Rattle.rule_run.specs.Window.{nonzero, markAt, sumBelow, bitOf, ago, answerTo, answersTo, stateAfter, runRefusal}
-use Rattle.rule_run.specs.Facts.{Call, made, taken, stateOver, answersOver, recordsOver, takenOver, freshCount, uncut, FreshlyCounted, DividedAnywhere}
+use Rattle.rule_run.specs.Facts.{Call, made, taken, stateOver, answersOver, recordsOver, takenOver, freshCount, uncut, FreshlyCounted, DividedAnywhere, StateFits, Appended}
 use Rattle.rule_run.proofs.Counting.{Bits, sum-same, ago-here, ago-before, ago-cases, state-bit, state-lt, state-none}
 use Rattle.rule_run.proofs.Feeding.{length-answers, answers-more, marks-low, Passes, passes, ready, refusal-none}
 
@@ -173,17 +173,29 @@ module _ (nv w count : ℕ) (ops operands : List ℕ) (m window : ℕ) where
               ∙ ap₂ (λ (l : List ℕ) (k : ℕ). answersTo (mark l) s m window k) same total;
         }
 
-  refused-or : (n : ℕ) → (n ≡ 0) ⊎ (0 < n)
-  refused-or zero = inl refl
-  refused-or (suc n) = inr (omega arith)
-
   pub over : (calls : List Call) (s : ℕ) → s < 2 ^ 64 → Over calls s
   unfolding recordsOver takenOver stateOver answersOver answersTo countUp
   over [] s h = record { long = sym (mul-zero nv); state = sym (state-none (mark []) s h); answers = refl }
-  over (c ∷ more) s h = elim (refused-or (refusalOf c)) [
+  over (c ∷ more) s h = elim (eq-zero-or-pos (refusalOf c)) [
     | inl e ↦ over-answered c more s e (over more (stateAfter (mark (c .records)) s (c .n)) (state-lt (mark (c .records)) s (marks-low nv w (tokens count ops operands) (c .records)) (c .n)))
     | inr p ↦ over-refused c more s p (over more s h)
   ]
+
+  -- the calls of one list, then those of another
+  pub appended : Appended nv w count ops operands m window
+  unfolding stateOver answersOver
+  appended [] b s = (refl, refl)
+  appended (c ∷ a) b s =
+      let rest = appended a b (made nv w count ops operands m window c s .reply .state) in (
+        rest .0,
+        ap (λ (l : List ℕ). take (taken nv w count ops operands m window c) (made nv w count ops operands m window c s .answers) ++ l) (rest .1)
+            ∙ sym (append-assoc (take (taken nv w count ops operands m window c) (made nv w count ops operands m window c s .answers)) _ _),
+      )
+
+  pub state-fits : StateFits nv w count ops operands m window
+  state-fits calls s h =
+      subst (λ (x : ℕ). x < 2 ^ 64) (sym (over calls (s .past) h .state))
+      (state-lt (mark (recordsOver nv w count ops operands m window calls)) (s .past) (marks-low nv w (tokens count ops operands) (recordsOver nv w count ops operands m window calls)) (takenOver nv w count ops operands m window calls))
 
   -- ---- in one call
   -- if a record is taken, some call passed all tests that don't ask for the arrays of records and answers
@@ -193,7 +205,7 @@ module _ (nv w count : ℕ) (ops operands : List ℕ) (m window : ℕ) where
 
   fit-one : (c : Call) (more : List Call) → 0 < taken nv w count ops operands m window c + takenOver nv w count ops operands m window more
       → (0 < takenOver nv w count ops operands m window more → Fit) → Fit
-  fit-one c more h rest = elim (refused-or (refusalOf c)) [
+  fit-one c more h rest = elim (eq-zero-or-pos (refusalOf c)) [
     | inl e ↦ record { call = c; passes = passes nv w count ops operands m window (c .n) (c .records) (c .answers) e }
     | inr p ↦ rest (omega (arith, unless-refused (refusalOf c) (c .n) 0 p))
   ]
@@ -217,7 +229,7 @@ module _ (nv w count : ℕ) (ops operands : List ℕ) (m window : ℕ) where
         (p .range))
 
     uncut-taken : taken nv w count ops operands m window u ≡ takenOver nv w count ops operands m window calls
-    uncut-taken = elim (refused-or (takenOver nv w count ops operands m window calls)) [
+    uncut-taken = elim (eq-zero-or-pos (takenOver nv w count ops operands m window calls)) [
       | inl e ↦ ap (λ (k : ℕ). unlessRefused (refusalOf u) k 0) e ∙ either (ltb 0 (refusalOf u)) ∙ sym e
       | inr p ↦ unless-not (refusalOf u) (u .n) 0 (uncut-none p)
     ]

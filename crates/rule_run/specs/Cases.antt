@@ -47,7 +47,7 @@ pub record Cases : Type 0 where
   pub all-ones : Gives 1 8 plainOps one 64 64 18446744073709551615 1 (1 ∷ []) (9 ∷ []) 0 18446744073709551615 (1 ∷ [])
   -- no record
   pub no-record : Gives 1 8 plainOps one 1 1 5 0 [] [] 0 5 []
-  -- refused: M of 0, M over W, W of 0, W of 65; 6 before 10; 4 before 6: a word too few, an answer too few; nothing changes
+  -- refused, and nothing changes: M of 0, M over W, W of 0, W of 65; 6 before 10; 4 before 6: a word too few, an answer too few; 2 before 4; 1 before 2
   pub m-zero : Gives 1 8 plainOps one 0 3 5 1 (1 ∷ []) (9 ∷ []) 10 5 (9 ∷ [])
   pub m-over : Gives 1 8 plainOps one 4 3 5 1 (1 ∷ []) (9 ∷ []) 10 5 (9 ∷ [])
   pub w-zero : Gives 1 8 plainOps one 0 0 5 1 (1 ∷ []) (9 ∷ []) 10 5 (9 ∷ [])
@@ -55,6 +55,8 @@ pub record Cases : Type 0 where
   pub six-first : Gives 1 8 (9 ∷ []) one 1 65 5 1 (1 ∷ []) (9 ∷ []) 6 5 (9 ∷ [])
   pub word-missing : Gives 2 8 (9 ∷ []) one 1 65 5 1 (1 ∷ []) (9 ∷ []) 4 5 (9 ∷ [])
   pub answer-missing : Gives 1 8 (9 ∷ []) one 1 65 5 2 (1 ∷ (1 ∷ [])) (9 ∷ []) 4 5 (9 ∷ [])
+  pub width-first : Gives 1 65 (9 ∷ []) one 1 65 5 2 (1 ∷ []) (9 ∷ []) 2 5 (9 ∷ [])
+  pub count-first : Gives 7 65 (9 ∷ []) one 1 65 5 2 (1 ∷ []) (9 ∷ []) 1 5 (9 ∷ [])
   -- a run in four calls, of which one is refused and one is empty: 1, 0 and 1 with two of three are 0, 0, 1
   pub answers-over : answersOver 1 8 1 plainOps one 2 3 calls empty ≡ 0 ∷ (0 ∷ (1 ∷ []))
   pub state-over : stateOver 1 8 1 plainOps one 2 3 calls empty ≡ record { past = 5 }

@@ -1,7 +1,7 @@
 -- What holds of any run, wherever it was divided between calls: of `ran`, which is what `run_rule` replies and leaves. A call that is refused takes no
 -- record and is no part of the run. proofs/Runs has the proofs. Assumes nothing.
 use mathlib.Core.Path.{_≡_}
-use mathlib.Core.Bool.{cond}
+use mathlib.Core.Bool.{Bool, cond}
 use mathlib.Core.List.{List, [], _∷_, _++_, map}
 use Prim.Native.Nat.{ℕ, _+_, _-_, _*_, _^_, _≤_, _<_}
 use lib.Dec.{leb}
@@ -56,11 +56,15 @@ module _ (nv w count : ℕ) (ops operands : List ℕ) (m window : ℕ) where
   unfolding markAt sumBelow
   freshCount records k = sumBelow window (λ (i : ℕ). cond (leb i k) (markAt nv w (tokens count ops operands) records (k - i)) 0)
 
+  -- 02, 2.6: it reaches M
+  abbrev pub firesAt : List ℕ → ℕ → Bool
+  firesAt records k = leb m (freshCount records k)
+
   -- 02, 2.6: for any run from the empty state each answer is 1 exactly if a fresh count over its last W records reaches M, wherever the run was divided between calls
   abbrev pub FreshlyCounted : Type 0
   FreshlyCounted =
       (calls : List Call)
-      → answersOver calls empty ≡ map (λ (k : ℕ). cond (leb m (freshCount (recordsOver calls) k)) 1 0) (countUp 0 (takenOver calls))
+      → answersOver calls empty ≡ map (λ (k : ℕ). cond (firesAt (recordsOver calls) k) 1 0) (countUp 0 (takenOver calls))
 
   -- the run in one call, with a lent array of answers
   abbrev pub uncut : List Call → List ℕ → Call
@@ -71,3 +75,12 @@ module _ (nv w count : ℕ) (ops operands : List ℕ) (m window : ℕ) where
   DividedAnywhere =
       (calls : List Call) (s : RuleState) (answers : List ℕ) → s .past < 2 ^ 64 → takenOver calls ≤ length answers
       → (stateOver calls s ≡ made (uncut calls answers) s .reply .state) × (answersOver calls s ≡ answersOver (uncut calls answers ∷ []) s)
+
+  -- 02, 2.6: the state handed back continues the run: it is a u64 again, and calls after calls are one list of calls
+  abbrev pub StateFits : Type 0
+  StateFits = (calls : List Call) (s : RuleState) → s .past < 2 ^ 64 → stateOver calls s .past < 2 ^ 64
+
+  abbrev pub Appended : Type 0
+  Appended =
+      (a b : List Call) (s : RuleState)
+      → (stateOver (a ++ b) s ≡ stateOver b (stateOver a s)) × (answersOver (a ++ b) s ≡ answersOver a s ++ answersOver b (stateOver a s))

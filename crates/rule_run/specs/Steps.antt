@@ -8,7 +8,7 @@ use Rattle.arrays.specs.Lists.{laid}
 use Rattle.expr.specs.Formula.{tokens, isFormula}
 use Rattle.rule_run.specs.Window.{answersTo, stateAfter}
 
--- an input that no number refuses
+-- what a run asks of an input that no number refuses; of the answers each step asks for itself
 pub record Ready (nv w count : ℕ) (ops operands : List ℕ) (m window n : ℕ) (records : List ℕ) : Type 0 where
   pub some : 1 ≤ nv
   pub few : nv ≤ 6

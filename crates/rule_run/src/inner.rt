@@ -164,7 +164,7 @@ fn run_rest(
     bits
 }
 
-// The first records, `rows` times sixteen of them: the formula goes over sixteen at once.
+// The first records, `rows` times sixteen of them: the formula goes over sixteen at once. A call with none is spared the clearing of a stack.
 fn run_rows(
     answers: &mut [u8],
     nv: usize,
@@ -181,6 +181,9 @@ fn run_rows(
     requires { ⌜ Ready nv w count (now ops) (now operands) m window (16 * rows) (now records) × (16 * rows ≤ length (now answers)) ⌝ }
     ensures { λ r. ⌜ ((s : ℕ) (old : List ℕ) → Fed (markAt nv w (tokens count (now (ops .entry)) (now (operands .entry))) (now (records .entry))) s m window old 0 (now (answers .entry)) past → Fed (markAt nv w (tokens count (now (ops .entry)) (now (operands .entry))) (now (records .entry))) s m window old (16 * rows) (now (answers .exit)) r) ⌝ }
 {
+    if rows == 0 {
+        return past;
+    }
     let mut stack = [0u64; expr_rows::STACK_WORDS];
     let step = ROW_WORDS * nv;
     let mut bits = past;
@@ -220,22 +223,6 @@ pub fn run(
     ensures { λ r. ⌜ Fed (markAt nv w (tokens count (now (ops .entry)) (now (operands .entry))) (now (records .entry))) past m window (now (answers .entry)) n (now (answers .exit)) r ⌝ }
 {
     let words = nv as usize;
-    if n < ROW_WORDS {
-        return run_rest(
-            answers,
-            words,
-            w,
-            count,
-            ops,
-            operands,
-            m,
-            window,
-            past,
-            0,
-            n,
-            records,
-        );
-    }
     let rows = n / ROW_WORDS;
     let bits = run_rows(
         answers,
@@ -250,6 +237,7 @@ pub fn run(
         rows,
         records,
     );
+    let at = ROW_WORDS * rows;
     run_rest(
         answers,
         words,
@@ -260,7 +248,7 @@ pub fn run(
         m,
         window,
         bits,
-        ROW_WORDS * rows,
+        at,
         n,
         records,
     )

@@ -289,7 +289,7 @@ pub extern "C" fn simjaldek_draw_formula(
     }
 }
 
-// `rule_run::run_rule`: the answers stand in the array. Refuses 1, 2, 4, 6, and 10 for an M or a W outside its range.
+// `rule_run::run_rule`: the answers stand in the array. Refuses 1, 2, 4, 6, and 10 for a window that isn't 1 to 64 or an m that isn't 1 to the window.
 #[no_mangle]
 pub extern "C" fn simjaldek_run_rule(
     answers: &mut [u8],

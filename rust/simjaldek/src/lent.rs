@@ -510,7 +510,7 @@ pub fn draw_formula(
 /// the empty one: nothing was nonzero before its first record. Gives the state that the next records go on from, so that a run has the same
 /// answers wherever it is cut into calls; [`Rule`](crate::Rule) keeps it. Places past the answers stay as they were. Refuses 1, 2, 4, 6, and
 /// 10 for a window that isn't one; a run then stands where it stood.
-// records may come one by one: through a function between such a call is 5 ns more
+// records may come one by one: no function between
 #[inline]
 pub fn run_rule(
     num_vars: u32,

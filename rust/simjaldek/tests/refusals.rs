@@ -850,7 +850,7 @@ const RULE_FAULTS: [RuleFault; 37] = [
     (4, |h| h.answers = 0),
     (4, |h| h.count = 3),
     (4, |h| h.count = usize::MAX),
-    // twice it is 4 modulo 2^64
+    // twice it is 4 modulo 2^64 (and the answers are too few all the same)
     (4, |h| h.count = usize::MAX / 2 + 3),
     (2, |h| h.width = 0),
     (2, |h| h.width = 65),

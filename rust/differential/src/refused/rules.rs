@@ -3,7 +3,7 @@
 use oracle::inputs::Inputs;
 use oracle::spec::lent::RunRule;
 use simjaldek::lent::{self, Records, Tokens};
-use simjaldek::Window;
+use simjaldek::{Refusal, Window};
 
 use super::formulas::damaged;
 use super::{claimed, damages, length, num_vars, number, widths};
@@ -15,13 +15,30 @@ const RECORDS: u64 = 40;
 
 /// One call, or its refusal.
 pub fn rule(inputs: &mut Inputs, report: &mut Report) {
+    let handed = handed(inputs);
+    let state = inputs.word();
+    let mut answers = garbage_u8(inputs, handed.answers as usize);
+    let before = answers.clone();
+    let words = garbage_u64(inputs, handed.records as usize);
+    let ran = ours(&handed, state, &words, &mut answers);
+    let kept = ran.is_ok() || answers == before;
+    report.refusal(
+        Kind::RefusedRule,
+        &(&handed, state),
+        (number(ran), kept),
+        handed.refusal(),
+    );
+}
+
+/// What is handed in, as numbers and lengths.
+fn handed(inputs: &mut Inputs) -> RunRule {
     let (good, width) = widths(inputs);
     let num_vars = num_vars(inputs);
     let formula = damaged(inputs, num_vars, good, width);
     let window = window(inputs);
     let n = inputs.below(RECORDS);
     let words = u64::from(num_vars.clamp(1, 6)) * n;
-    let handed = RunRule {
+    RunRule {
         num_vars: num_vars.into(),
         width: width.into(),
         count: formula.count,
@@ -32,36 +49,27 @@ pub fn rule(inputs: &mut Inputs, report: &mut Report) {
         n: claimed(inputs, n as usize) as u64,
         records: length(inputs, words),
         answers: length(inputs, n),
-    };
+    }
+}
+
+/// The call.
+fn ours(handed: &RunRule, state: u64, words: &[u64], answers: &mut [u8]) -> Result<u64, Refusal> {
     let ops: Vec<u8> = handed.ops.iter().map(|&op| op as u8).collect();
     let tokens = Tokens {
         count: handed.count as usize,
         ops: &ops,
         operands: &handed.operands,
     };
+    let window = Window {
+        least: handed.m as u32,
+        records: handed.window as u32,
+    };
     let records = Records {
         count: handed.n as usize,
-        words: &garbage_u64(inputs, handed.records as usize),
+        words,
     };
-    let mut answers = garbage_u8(inputs, handed.answers as usize);
-    let before = answers.clone();
-    let state = inputs.word();
-    let ran = lent::run_rule(
-        num_vars,
-        width,
-        tokens,
-        window,
-        state,
-        records,
-        &mut answers,
-    );
-    let kept = ran.is_ok() || answers == before;
-    report.refusal(
-        Kind::RefusedRule,
-        &(&handed, state),
-        (number(ran), kept),
-        handed.refusal(),
-    );
+    let (num_vars, width) = (handed.num_vars as u32, handed.width as u32);
+    lent::run_rule(num_vars, width, tokens, window, state, records, answers)
 }
 
 /// An M and a W, good or not; some are good when cut to fewer bits.

@@ -4,57 +4,33 @@ use native.Mathlib.Omega.{arith}
 use borrow.Author.Needs.{needs}
 use Rattle.expr.specs.Formula.{tokens}
 use Rattle.rule_run.specs.Window.{markAt}
-use Rattle.rule_run.specs.Steps.{Fed}
 use Rattle.rule_run.proofs.Feeding.{fed-start, marks-low, ready-less}
 use Rattle.rule_run.proofs.inner.run.Statement.{statement}
 use Rattle.rule_run.proofs.inner.run.Tie as tie
 
--- before the first record
-start : (s : tie.Start) → Fed (markAt (s .args .nv) (s .args .w) (tokens (s .args .count) (s .args .ops .now) (s .args .operands .now)) (s .args .records .now)) (s .args .past) (s .args .m) (s .args .window) (s .args .answers .now) 0 (s .args .answers .now) (s .args .past)
-start s =
+run-rows-requires : tie.Need-run-rows-requires
+run-rows-requires c κs =
+    let s = c .before .before .before .before .before in
     let a = s .args in
-    let ts = tokens (a .count) (a .ops .now) (a .operands .now) in
-    fed-start (markAt (a .nv) (a .w) ts (a .records .now)) (a .past) (a .m) (a .window) (a .answers .now) (marks-low (a .nv) (a .w) ts (a .records .now)) (s .fits .past .fits)
+    (ready-less (a .nv) (a .w) (a .count) (a .ops .now) (a .operands .now) (a .m) (a .window) (a .n) (16 * (a .n / 16)) (a .records .now) (omega arith) (s .pre .0), omega (arith, s .pre .1))
+
+mul-at : tie.Need-mul-at
+mul-at c = omega arith
 
 run-rest-requires : tie.Need-run-rest-requires
-run-rest-requires c κs = let s = c .before .before .before .before .before .before in (s .pre .0, (omega arith, s .pre .1))
+run-rest-requires c κs = let s = c .before .before .before .before .before .before .before .before .before in (s .pre .0, (omega arith, omega (arith, s .pre .1, c .before .before .before .run-rows .kept .0)))
 
 same-length : tie.Need-same-length
 same-length c = search needs
 
 returns : tie.Need-returns
-returns c = let s = c .before .before .before .before .before .before .before .before .before in c .before .before .run-rest .ensures (s .args .past) (s .args .answers .now) (start s)
-
-run-rows-requires : tie.Need-run-rows-requires
-run-rows-requires c κs =
-    let s = c .before .before .before .before .before .before in
+returns c =
+    let s = c .before .before .before .before .before .before .before .before .before .before .before .before in
     let a = s .args in
-    (ready-less (a .nv) (a .w) (a .count) (a .ops .now) (a .operands .now) (a .m) (a .window) (a .n) (16 * (a .n / 16)) (a .records .now) (omega arith) (s .pre .0), omega (arith, s .pre .1))
-
-mul-run-rest : tie.Need-mul-run-rest
-mul-run-rest c = omega arith
-
-run-rest-requires-2 : tie.Need-run-rest-requires-2
-run-rest-requires-2 c κs = let s = c .before .before .before .before .before .before .before .before .before .before in (s .pre .0, (omega arith, omega (arith, s .pre .1, c .before .before .before .run-rows .kept .0)))
-
-same-length-2 : tie.Need-same-length-2
-same-length-2 c = search needs
-
-returns-2 : tie.Need-returns-2
-returns-2 c =
-    let s = c .before .before .before .before .before .before .before .before .before .before .before .before .before in
-    let a = s .args in
-    c .before .before .run-rest2 .ensures (a .past) (a .answers .now) (c .before .before .before .before .before .before .run-rows .ensures (a .past) (a .answers .now) (start s))
+    let ts = tokens (a .count) (a .ops .now) (a .operands .now) in
+    c .before .before .run-rest .ensures (a .past) (a .answers .now)
+    (c .before .before .before .before .before .before .run-rows .ensures (a .past) (a .answers .now)
+    (fed-start (markAt (a .nv) (a .w) ts (a .records .now)) (a .past) (a .m) (a .window) (a .answers .now) (marks-low (a .nv) (a .w) ts (a .records .now)) (s .fits .past .fits)))
 
 pub run-spec : {M : Type 1} → statement M
-run-spec =
-    tie.close
-    (tie.spec
-    run-rest-requires
-    same-length
-    returns
-    run-rows-requires
-    mul-run-rest
-    run-rest-requires-2
-    same-length-2
-    returns-2)
+run-spec = tie.close (tie.spec run-rows-requires mul-at run-rest-requires same-length returns)

@@ -1,4 +1,4 @@
--- `rule_run::inner::run_rows` meets its contract: sixteen records after the other. Assumes nothing.
+-- `rule_run::inner::run_rows` meets its contract: sixteen after sixteen. Assumes nothing.
 use mathlib.Core.Path.{_≡_, refl, sym, ap, _∙_}
 use mathlib.Core.List.{List}
 use Prim.Native.Nat.{ℕ, _+_, _-_, _*_, _≤_}
@@ -24,14 +24,17 @@ abbrev μ-loop : tie.MeasureT-loop
 μ-loop answers₀ nv w count ops operands m window past rows records stack₀ step bits₀ k₀ answers stack bits k = rows - k
 
 -- the sixteen records lie within the array
-fits : (c : tie.In-loop Inv-loop μ-loop) → 16 * c .before .before .before .before .before .before .args .nv * c .before .loop .k + 16 * c .before .before .before .before .before .before .args .nv ≤ length (c .before .before .before .before .before .before .args .records .now)
+fits : (c : tie.In-loop Inv-loop μ-loop) → 16 * c .before .before .before .before .before .before .before .args .nv * c .before .loop .k + 16 * c .before .before .before .before .before .before .before .args .nv ≤ length (c .before .before .before .before .before .before .before .args .records .now)
 fits c =
-    let a = c .before .before .before .before .before .before in
+    let a = c .before .before .before .before .before .before .before in
     let same : a .args .nv * (16 * a .args .rows) ≡ 16 * a .args .nv * a .args .rows = sym (mul-assoc (a .args .nv) 16 (a .args .rows)) ∙ ap (λ (n : ℕ). n * a .args .rows) (mul-comm (a .args .nv) 16) in
     omega (arith, part-within (16 * a .args .nv) (c .before .loop .k) (a .args .rows) (search needs), a .pre .0 .fits, same)
 
+returns : tie.Need-returns Inv-loop μ-loop
+returns c = λ s old f. fed-at (16 * c .before .before .before .before .before .args .rows) (omega (arith, c .if1 .taken)) f
+
 mul-step : tie.Need-mul-step Inv-loop μ-loop
-mul-step c = omega (arith, c .before .before .before .before .pre .0 .few)
+mul-step c = omega (arith, c .before .before .before .before .before .pre .0 .few)
 
 loop-holds : tie.Need-loop-holds Inv-loop μ-loop
 loop-holds c = (omega arith, (refl, (refl, λ s old f. f)))
@@ -59,7 +62,7 @@ part-eval-row-end c = let h = fits (c .before) in search needs
 
 eval-row-requires : tie.Need-eval-row-requires Inv-loop μ-loop
 eval-row-requires c κs =
-    let a = c .before .before .before .before .before .before .before .before in
+    let a = c .before .before .before .before .before .before .before .before .before in
     let l = c .before .before .before .loop in
     record {
       narrow = a .pre .0 .narrow;
@@ -73,7 +76,7 @@ mul-feed-row : tie.Need-mul-feed-row Inv-loop μ-loop
 mul-feed-row c = search needs
 
 feed-row-requires : tie.Need-feed-row-requires Inv-loop μ-loop
-feed-row-requires c κs = let a = c .before .before .before .before .before .before .before .before .before .before .before in (omega (arith, a .pre .1, c .before .before .before .before .before .before .loop .inv .1 .1 .0), (omega (arith, a .pre .0 .least, a .pre .0 .reach), a .pre .0 .most))
+feed-row-requires c κs = let a = c .before .before .before .before .before .before .before .before .before .before .before .before in (omega (arith, a .pre .1, c .before .before .before .before .before .before .loop .inv .1 .1 .0), (omega (arith, a .pre .0 .least, a .pre .0 .reach), a .pre .0 .most))
 
 add-k : tie.Need-add-k Inv-loop μ-loop
 add-k c = search needs
@@ -83,7 +86,7 @@ loop-less c = search needs
 
 loop-again : tie.Need-loop-again Inv-loop μ-loop
 loop-again c =
-    let a = c .before .before .before .before .before .before .before .before .before .before .before .before .before .before .args in
+    let a = c .before .before .before .before .before .before .before .before .before .before .before .before .before .before .before .args in
     let l = c .before .before .before .before .before .before .before .before .before .loop in
     let e = c .before .before .before .before .before .eval-row in
     let r = c .before .before .feed-row in (
@@ -107,9 +110,9 @@ loop-again c =
 same-length : tie.Need-same-length Inv-loop μ-loop
 same-length c = search needs
 
-returns : tie.Need-returns Inv-loop μ-loop
-returns c =
-    let a = c .before .before .before .before .before .before .args in
+returns-2 : tie.Need-returns-2 Inv-loop μ-loop
+returns-2 c =
+    let a = c .before .before .before .before .before .before .before .args in
     let l = c .before .loop in
     λ s old f. fed-at (16 * a .rows) (omega arith) (l .inv .1 .1 .1 s old f)
 
@@ -119,6 +122,7 @@ run-rows-spec =
     (tie.spec
     Inv-loop
     μ-loop
+    returns
     mul-step
     loop-holds
     mul-from
@@ -135,4 +139,4 @@ run-rows-spec =
     loop-less
     loop-again
     same-length
-    returns)
+    returns-2)

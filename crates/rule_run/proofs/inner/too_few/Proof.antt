@@ -3,8 +3,7 @@ use mathlib.Core.Path.{refl, sym, _∙_}
 use borrow.Author.Needs.{needs}
 use borrow.Author.Tests.{lt-ltb, le-ltb}
 use lib.ListN.{length}
-use Rattle.limits.proofs.Refusals.{or-here, or-later}
-use Rattle.rule_run.proofs.Feeding.{parts-few}
+use Rattle.limits.proofs.Refusals.{or-here, or-later, parts-few}
 use Rattle.rule_run.proofs.inner.too_few.Statement.{statement}
 use Rattle.rule_run.proofs.inner.too_few.Tie as tie
 

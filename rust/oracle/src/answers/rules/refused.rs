@@ -98,7 +98,7 @@ fn lengths(file: &mut DataFile) {
 
 /// Counts of records and of tokens far beyond the arrays.
 fn huge_counts(file: &mut DataFile) {
-    // twice it is 4 modulo 2^64
+    // twice it is 4 modulo 2^64 (and the answers are too few all the same)
     let wraps = (1 << 63) + 2;
     for n in HUGE.into_iter().chain([3, wraps]) {
         let handed = changed(2, |handed| handed.n = n);
