@@ -209,7 +209,7 @@ struct simjaldek_formula_reply simjaldek_draw_formula(
     uint32_t w,
     size_t limit);
 
-/* `rule_run::run_rule`: the answers stand in the array. Refuses 1, 2, 4, 6, and 10 for an M or a W outside its range. */
+/* `rule_run::run_rule`: the answers stand in the array. Refuses 1, 2, 4, 6, and 10 for a window that isn't 1 to 64 or an m that isn't 1 to the window. */
 struct simjaldek_rule_reply simjaldek_run_rule(
     uint8_t *answers, size_t answers_len,
     uint32_t nv,
