@@ -1,6 +1,7 @@
 /* Shortens two formulas at width 8: the cheapest product with the row of v0 * v0 + v0 * v1, and, since no product has its
    row, a sum with that of v0 * v0 + v0 * v1 + v0 * v1 + v1 * v1 + (v0 ^ v1), the first that fits. The calls in their order,
-   with arrays of the sizes that they need. Then a rule over records that come in two parts. README.md says how it is compiled. */
+   with arrays of the sizes that they need. Then a rule over records that come in two parts, and a
+   closing log over two soundings. README.md says how it is compiled. */
 #include "simjaldek.h"
 #include <stdio.h>
 #include <stdlib.h>
@@ -109,11 +110,36 @@ static void replay(void) {
     printf("\n");
 }
 
+/* two soundings, each closed once: by v0, rank 1, in two of the last three records, or by v1, rank 2, in two of the last two. A
+   rule has 64 places for its tokens; the log that a call hands back goes into the next one. */
+static void close_soundings(void) {
+    enum { RULES = 2, PLACES = 64, SOUNDINGS = 2, RECORDS = 5 };
+    static const uint32_t ranks[RULES] = {1, 2}, ms[RULES] = {2, 2}, windows[RULES] = {3, 2}, token_counts[RULES] = {1, 1};
+    static const uint8_t rule_ops[RULES * PLACES] = {[0] = 1, [PLACES] = 1};
+    static const uint64_t rule_operands[RULES * PLACES] = {[0] = 0, [PLACES] = 1};
+    static const uint64_t records[SOUNDINGS][NV * RECORDS] = {
+        {0, 0, 1, 5, 1, 5, 0, 5, 0, 5}, /* both fire on the third */
+        {0, 5, 1, 5, 0, 0, 1, 0, 0, 0},
+    };
+    struct simjaldek_log_state log = {0}; /* no sounding yet */
+    for (int k = 0; k < SOUNDINGS; k++) {
+        log = simjaldek_open_log(log);
+        struct simjaldek_log_reply ran = simjaldek_run_log(
+            log, RULES, ranks, RULES, ms, RULES, windows, RULES, token_counts, RULES, rule_ops, RULES * PLACES,
+            rule_operands, RULES * PLACES, NV, W, RECORDS, records[k], NV * RECORDS);
+        refused("run_log", ran.refusal);
+        log = ran.log;
+        printf("sounding %d: closed at record %llu by rank %u, later %llu\n", k + 1, (unsigned long long)log.closed_at,
+               (unsigned)log.rank, (unsigned long long)log.later);
+    }
+}
+
 int main(void) {
     struct simjaldek_points_reply at = simjaldek_make_probe_points(NV, W);
     refused("make_probe_points", at.refusal);
     shorten((const uint64_t *)at.points, 7);
     shorten((const uint64_t *)at.points, TOKENS);
     replay();
+    close_soundings();
     return 0;
 }

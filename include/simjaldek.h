@@ -8,7 +8,8 @@
    width, for completions only where a bank build left the atoms, or their rows are below 2^w, or one of them is 0 modulo 2^w.
    That arrays, counts and widths belong together is not tested.
 
-   A rule's run begins with state 0; each call after the first is handed the state that the one before it gave.
+   A rule's run begins with state 0, a closing log as zeros; each call after the first is handed the state, or the log, that
+   the one before it gave.
 
    Opcodes: 0 constant, 1 variable, 2 Add, 3 Mul, 4 And, 5 Or, 6 Xor, 7 Not, 8 Neg. Gates have numbers of their own: 0 And,
    1 Or, 2 Xor, 3 Add, 4 Mul.
@@ -16,8 +17,9 @@
    An array goes as its first element's address and its length. An array that is written must not overlap another.
    `refusal`, where a reply has it, is 0 for an answer, else why there is none: 1 variable count, 2 width, 3 limit, 4 array
    too short, 5 word not below 2^w, 6 no formula, no gate or no token limit, 7 too many atoms or pairs, a slot past the count
-   or a pair's gate above 4, 8 order list, 10 m not 1 to the window or the window not 1 to 64. Beside a refusal no array was
-   written, and the rest of the reply is zeros, but for a state that was handed in: it is as it was. */
+   or a pair's gate above 4, 8 order list, 10 m not 1 to the window or the window not 1 to 64, 11 no rule, more than eight, a
+   rank not 1 to 8 or two equal ranks. Beside a refusal no array was written, and the rest of the reply is zeros, but for a
+   state or a log that was handed in: it is as it was. */
 #ifndef SIMJALDEK_H
 #define SIMJALDEK_H
 
@@ -105,6 +107,23 @@ struct simjaldek_formula_reply {
 struct simjaldek_rule_reply {
     uint32_t refusal;
     uint64_t state;
+};
+
+/* The closing log of a station's soundings: whether one is open (0 for no, any other number for yes; handed back 0 or 1, and as it was beside a refusal), the rank that closed it (0 for none), the number
+   of its last record, the number of the record that closed it (0 for none), how many later records had a firing, and what each rule's window has seen. */
+struct simjaldek_log_state {
+    uint32_t open;
+    uint32_t rank;
+    uint64_t number;
+    uint64_t closed_at;
+    uint64_t later;
+    uint64_t windows[8];
+};
+
+/* The log after a run's records; as it was beside a refusal. */
+struct simjaldek_log_reply {
+    uint32_t refusal;
+    struct simjaldek_log_state log;
 };
 
 /* `search_product::product_search`: kind 0 nothing, 1 the atoms a and b, 2 the atom a and the pair b, the cheapest product. Refuses 2, 4, 5, 6, 7, 8. */
@@ -220,6 +239,25 @@ struct simjaldek_rule_reply simjaldek_run_rule(
     uint32_t m,
     uint32_t window,
     uint64_t state,
+    size_t n,
+    const uint64_t *records, size_t records_len);
+
+/* Starts a sounding. */
+struct simjaldek_log_state simjaldek_open_log(
+    struct simjaldek_log_state log);
+
+/* Runs records through a closing log. */
+struct simjaldek_log_reply simjaldek_run_log(
+    struct simjaldek_log_state log,
+    size_t rule_count,
+    const uint32_t *ranks, size_t ranks_len,
+    const uint32_t *ms, size_t ms_len,
+    const uint32_t *windows, size_t windows_len,
+    const uint32_t *token_counts, size_t token_counts_len,
+    const uint8_t *ops, size_t ops_len,
+    const uint64_t *operands, size_t operands_len,
+    uint32_t nv,
+    uint32_t w,
     size_t n,
     const uint64_t *records, size_t records_len);
 

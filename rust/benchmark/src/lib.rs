@@ -8,6 +8,7 @@ mod candidates;
 mod clock;
 mod formulas;
 pub mod load;
+mod logs;
 pub mod measure;
 pub mod parse;
 mod process;
@@ -17,6 +18,7 @@ mod searches;
 mod setting;
 pub mod stack;
 pub mod table;
+mod tokens;
 
 use measure::{Plan, Times};
 
@@ -59,11 +61,13 @@ pub enum Call {
     Draw,
     Rule,
     RuleOne,
+    Log,
+    LogOne,
 }
 
 impl Call {
     /// All calls, in the tables' order.
-    pub const ALL: [Call; 26] = [
+    pub const ALL: [Call; 28] = [
         Call::Bank,
         Call::Index,
         Call::SearchNothing,
@@ -90,6 +94,8 @@ impl Call {
         Call::Draw,
         Call::Rule,
         Call::RuleOne,
+        Call::Log,
+        Call::LogOne,
     ];
 
     /// Its heading.
@@ -121,6 +127,8 @@ impl Call {
             Call::Draw => "Draw a formula",
             Call::Rule => "Rule over records",
             Call::RuleOne => "Rule, one record a call",
+            Call::Log => "Closing log over records",
+            Call::LogOne => "Closing log, one record a call",
         }
     }
 
@@ -170,6 +178,7 @@ pub fn time_setting(plan: &Plan, setting: &mut Setting) -> Vec<Line> {
         formulas::time(plan, num_vars, width, &mut take);
         load::time(plan, num_vars, width, &mut take);
         rules::time(plan, num_vars, width, &mut take);
+        logs::time(plan, num_vars, width, &mut take);
     }
     residuals::time(plan, setting, &mut take);
     lines
@@ -187,6 +196,7 @@ pub fn check_setting(setting: &Setting) {
         formulas::check(setting.num_vars, setting.width);
         load::check(setting.num_vars, setting.width);
         rules::check(setting.num_vars, setting.width);
+        logs::check(setting.num_vars, setting.width);
     }
     residuals::check(setting);
 }

@@ -14,32 +14,33 @@ use simjaldek::Window;
 
 use crate::measure::{alternate, together, Plan, Times};
 use crate::setting::inputs;
+use crate::tokens::is_formula;
 use crate::Call;
 
 /// The sizes of formulas: a gate over two leaves, and longer ones.
-const GATE_TOKENS: usize = 3;
+pub const GATE_TOKENS: usize = 3;
 const SIZES: [usize; 3] = [GATE_TOKENS, 10, TOKENS_MAX];
 /// Rules of a size; the shapes of the longer ones, and M and W of the windows.
 const RULES: usize = 8;
 const SHAPES: [Lean; 4] = [Lean::Left, Lean::Right, Lean::Any, Lean::Any];
 const WINDOWS: [(u32, u32); 4] = [(3, 5), (1, 1), (32, 64), (10, 16)];
 /// Records of a call, and records that are handed in one by one.
-const RECORDS: usize = 4096;
+pub const RECORDS: usize = 4096;
 const SINGLES: usize = 256;
 
 /// The rules of one size, and the records that each of them is run over.
-struct Watch {
-    num_vars: u32,
-    width: u32,
-    rules: Vec<Rule>,
-    records: Vec<u64>,
+pub struct Watch {
+    pub num_vars: u32,
+    pub width: u32,
+    pub rules: Vec<Rule>,
+    pub records: Vec<u64>,
 }
 
 /// A rule as the sides hold it.
-struct Rule {
-    formula: Formula,
-    compiled: CompiledExpr,
-    window: Window,
+pub struct Rule {
+    pub formula: Formula,
+    pub compiled: CompiledExpr,
+    pub window: Window,
 }
 
 /// Times a record; the calls of a round are one for each rule, or one for each rule and record. The state runs on.
@@ -95,7 +96,7 @@ impl Run {
 }
 
 impl Watch {
-    fn new(num_vars: u32, width: u32, size: usize) -> Self {
+    pub fn new(num_vars: u32, width: u32, size: usize) -> Self {
         let inputs = &mut inputs(num_vars, width, 5);
         let words = num_vars as usize * RECORDS;
         let records = (0..words).map(|_| inputs.word_of_width(width)).collect();
@@ -242,72 +243,20 @@ impl Handed<'_> {
             && tokens.ops.len().min(tokens.operands.len()) >= tokens.count
             && records.words.len() / num_vars as usize >= records.count
             && answers.len() >= records.count
-            && is_formula(num_vars, tokens)
+            && is_formula(num_vars.into(), tokens)
             && (1..=64).contains(&window.records)
             && (1..=window.records).contains(&window.least)
     }
 }
 
-/// The formula test, for arrays that are long enough.
-fn is_formula(num_vars: u32, tokens: Tokens<'_>) -> bool {
-    if !(1..=TOKENS_MAX).contains(&tokens.count) {
-        return false;
-    }
-    let mut values = 0usize;
-    for (&op, &operand) in tokens.ops.iter().zip(tokens.operands).take(tokens.count) {
-        let (fit, takes) = match op {
-            0 => (true, 0),
-            1 => (operand < u64::from(num_vars), 0),
-            2..=6 => (operand == 0, 2),
-            7 | 8 => (operand == 0, 1),
-            _ => (false, 0),
-        };
-        if !fit || values < takes {
-            return false;
-        }
-        values = values - takes + 1;
-    }
-    values == 1
-}
-
 #[cfg(test)]
 mod tests {
-    use super::{check, is_formula};
-    use oracle::inputs::Inputs;
-    use oracle::made::formulas::{Lean, Maker};
-    use simjaldek::lent::{self, Tokens};
+    use super::check;
 
     #[test]
     fn both_sides() {
         for (num_vars, width) in [(2, 8), (3, 64), (6, 33)] {
             check(num_vars, width);
         }
-    }
-
-    /// The plain test of a formula is the library's, over formulas with a token changed.
-    #[test]
-    fn formulas() {
-        let inputs = &mut Inputs::from_seed(3);
-        let mut there = [0; 2];
-        for turn in 0..2000 {
-            let mut maker = Maker {
-                inputs,
-                num_vars: 2,
-                width: 8,
-            };
-            let mut formula = maker.formula(1 + turn % 66, Lean::Any);
-            let place = inputs.below(formula.ops.len() as u64) as usize;
-            formula.ops[place] = inputs.below(10) as u8;
-            formula.operands[place] = inputs.below(3);
-            let tokens = Tokens {
-                count: formula.ops.len(),
-                ops: &formula.ops,
-                operands: &formula.operands,
-            };
-            let is = lent::is_formula(2, tokens);
-            assert_eq!(is_formula(2, tokens), is);
-            there[usize::from(is)] += 1;
-        }
-        assert!(there.iter().all(|&count| count > 100), "{there:?}");
     }
 }

@@ -7,11 +7,12 @@ use oracle::access::{self, Opcodes, Row, Trial};
 use oracle::made::banks::largest;
 use oracle::spec::formulas::VARS_MAX;
 use oracle::spec::product::product;
-use simjaldek::lent::{self, WrittenAtoms, WrittenPairs};
+use simjaldek::lent::{self, Tokens, WrittenAtoms, WrittenPairs};
 use simjaldek::{AtomSlot, PairSlot, Product, ATOMS_MAX, ATOM_TOKENS, PAIRS_MAX, ROW_WORDS};
 
 use crate::measure::{alternate, together, Plan, Times};
 use crate::setting::inputs;
+use crate::tokens::is_formula;
 use crate::{Call, Setting};
 
 /// Products of late atoms with any pairs, of which the one that is found last is taken; and rows of pairs.
@@ -170,22 +171,12 @@ impl Plain<'_> {
         if length == 0 || length > ATOM_TOKENS {
             return false;
         }
-        let ops = &self.atoms.ops[ATOM_TOKENS * atom..][..length];
-        let operands = &self.atoms.operands[ATOM_TOKENS * atom..][..length];
-        let mut values = 0;
-        for (&op, &operand) in ops.iter().zip(operands) {
-            let (is_token, taken) = match op {
-                0 => (true, 0),
-                1 => (operand < VARS_MAX, 0),
-                7 | 8 => (operand == 0, 1),
-                _ => (op < 7 && operand == 0, 2),
-            };
-            if !is_token || values < taken {
-                return false;
-            }
-            values = values + 1 - taken;
-        }
-        values == 1
+        let tokens = Tokens {
+            count: length,
+            ops: &self.atoms.ops[ATOM_TOKENS * atom..],
+            operands: &self.atoms.operands[ATOM_TOKENS * atom..],
+        };
+        is_formula(VARS_MAX, tokens)
     }
 }
 

@@ -2,7 +2,9 @@
 
 use oracle::access::{AtomView, IndexView, Row};
 use oracle::inputs::Inputs;
-use simjaldek::lent::{BankArrays, IndexArrays, WrittenAtoms, WrittenPairs};
+use oracle::spec::formulas::TOKENS_MAX;
+use oracle::spec::log::Ranked;
+use simjaldek::lent::{BankArrays, IndexArrays, Rules, WrittenAtoms, WrittenPairs};
 
 /// The token places of an atom, and what stands where there is no token.
 pub const ATOM_TOKENS: usize = 6;
@@ -111,6 +113,65 @@ impl PairBuffers {
             words: &self.words,
             rows: &self.rows,
             order: &self.order,
+        }
+    }
+}
+
+/// Rules as a closing log reads them, with garbage past each formula, and after them all or nothing.
+#[derive(Clone, Debug)]
+pub struct RuleBuffers {
+    pub ranks: Vec<u32>,
+    pub ms: Vec<u32>,
+    pub windows: Vec<u32>,
+    pub token_counts: Vec<u32>,
+    pub ops: Vec<u8>,
+    pub operands: Vec<u64>,
+}
+
+impl RuleBuffers {
+    pub fn new(inputs: &mut Inputs, rules: &[Ranked]) -> Self {
+        let mut each = |number: fn(&Ranked) -> usize| {
+            let mut numbers: Vec<u32> = rules.iter().map(|rule| number(rule) as u32).collect();
+            let beyond = extra(inputs);
+            numbers.extend(garbage_u32(inputs, beyond));
+            numbers
+        };
+        let [ranks, ms, windows, token_counts] = [
+            each(|ranked| ranked.rank as usize),
+            each(|ranked| ranked.rule.m),
+            each(|ranked| ranked.rule.window),
+            each(|ranked| ranked.rule.formula.ops.len()),
+        ];
+        let mut places = || TOKENS_MAX * rules.len() + extra(inputs);
+        let (ops, operands) = (places(), places());
+        let mut buffers = RuleBuffers {
+            ranks,
+            ms,
+            windows,
+            token_counts,
+            ops: garbage_u8(inputs, ops),
+            operands: garbage_u64(inputs, operands),
+        };
+        for (place, Ranked { rule, .. }) in rules.iter().enumerate() {
+            let count = rule.formula.ops.len();
+            let ops = &mut buffers.ops[TOKENS_MAX * place..][..count];
+            ops.copy_from_slice(&rule.formula.ops);
+            let operands = &mut buffers.operands[TOKENS_MAX * place..][..count];
+            operands.copy_from_slice(&rule.formula.operands);
+        }
+        buffers
+    }
+
+    /// The first rules, or as many as are claimed.
+    pub fn lend(&self, count: usize) -> Rules<'_> {
+        Rules {
+            count,
+            ranks: &self.ranks,
+            ms: &self.ms,
+            windows: &self.windows,
+            token_counts: &self.token_counts,
+            ops: &self.ops,
+            operands: &self.operands,
         }
     }
 }

@@ -13,6 +13,7 @@ mod formulas;
 mod indexes;
 mod listings;
 mod loads;
+mod logs;
 mod products;
 pub mod program;
 mod refused;
@@ -44,12 +45,16 @@ const SEARCH_REFUSALS: usize = 32;
 const ROUNDS_TO_A_LOAD: u64 = 64;
 /// Calls of a round of loads alone that may be refused.
 const LOAD_REFUSALS: usize = 32;
-/// Of so many rounds one has a long run of a rule; records of such a run, in a round of rules alone too.
+/// Of so many rounds one has a long run of a rule and of a log; records of such a run, in a round of rules or logs alone too.
 const ROUNDS_TO_A_RUN: u64 = 64;
 const LONG_RUN: usize = 100_000;
 /// Runs of a round of rules alone that are cut, and calls that may be refused.
 const RULE_RUNS: usize = 64;
 const RULE_REFUSALS: usize = 256;
+/// Calls of a round of closing logs alone, runs that are cut, and calls that may be refused.
+const LOG_CALLS: usize = 512;
+const LOG_RUNS: usize = 64;
+const LOG_REFUSALS: usize = 512;
 
 /// Rounds until at least `count` results are compared.
 pub fn run(seed: u64, count: u64) -> Report {
@@ -106,7 +111,18 @@ pub fn run_rules(seed: u64, count: u64) -> Report {
     report
 }
 
-/// One round: banks, indexes and searches, formulas, loads, rules, words, listings, and what is refused.
+/// Rounds of closing logs alone until at least `count` of their calls are compared.
+pub fn run_logs(seed: u64, count: u64) -> Report {
+    let mut report = Report::new(seed);
+    let mut number = 0;
+    while report.of_kind(Kind::LogCall) < count {
+        log_round(seed, number, &mut report);
+        number += 1;
+    }
+    report
+}
+
+/// One round: banks, indexes and searches, formulas, loads, rules, logs, words, listings, and what is refused.
 pub fn round(seed: u64, number: u64, report: &mut Report) {
     let inputs = &mut begin(seed, number, report);
     for _ in 1..BANKS {
@@ -132,7 +148,9 @@ pub fn round(seed: u64, number: u64, report: &mut Report) {
     rules::compare(inputs, report);
     if number % ROUNDS_TO_A_RUN == 0 {
         rules::compare_long(inputs, report, LONG_RUN);
+        logs::compare_long(inputs, report, LONG_RUN);
     }
+    logs::compare(inputs, report);
     words::compare(inputs, report);
     listings::compare(inputs, report);
     refused::compare(inputs, report);
@@ -213,6 +231,21 @@ pub fn rule_round(seed: u64, number: u64, report: &mut Report) {
     rules::compare_long(inputs, report, LONG_RUN);
     for _ in 0..RULE_REFUSALS {
         refused::rule(inputs, report);
+    }
+}
+
+/// One round of closing logs: calls from any log, runs of opens and records that are cut, one of them long; and what is refused.
+pub fn log_round(seed: u64, number: u64, report: &mut Report) {
+    let inputs = &mut begin(seed, number, report);
+    for _ in 0..LOG_CALLS {
+        logs::compare_call(inputs, report);
+    }
+    for _ in 0..LOG_RUNS {
+        logs::compare_run(inputs, report);
+    }
+    logs::compare_long(inputs, report, LONG_RUN);
+    for _ in 0..LOG_REFUSALS {
+        refused::log(inputs, report);
     }
 }
 

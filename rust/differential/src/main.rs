@@ -1,7 +1,8 @@
 //! `differential SEED COUNT`: rounds until so many results are compared. `differential SEED round NUMBER`: that round again.
 //! `differential SEED products COUNT`: rounds of product searches alone until there are so many; `SEED products round NUMBER`: that
 //! round again. `differential SEED residuals COUNT`, `SEED residuals round NUMBER`: the same of residual searches; `SEED loads COUNT`,
-//! `SEED loads round NUMBER`: of formulas drawn for the test load; `SEED rules COUNT`, `SEED rules round NUMBER`: of rules over records.
+//! `SEED loads round NUMBER`: of formulas drawn for the test load; `SEED rules COUNT`, `SEED rules round NUMBER`: of rules over records;
+//! `SEED logs COUNT`, `SEED logs round NUMBER`: of closing logs.
 //! Exit status 1 where a result differs in a way that docs/DIFFERENCES.md doesn't have.
 //! `differential answers NAME`: the data file of that name of crates/compare/data, the originals' answers for the program that compares.
 //! `differential program PATH`: the load program at PATH, over a pipe, beside the plain statement of what it prints, byte by byte;
@@ -37,8 +38,8 @@ fn main() -> ExitCode {
 
 fn usage() -> ExitCode {
     eprintln!(
-        "usage: differential SEED [products|residuals|loads|rules] COUNT | SEED [products|residuals|loads|rules] round NUMBER | \
-         answers {} | differences | program PATH | load",
+        "usage: differential SEED [products|residuals|loads|rules|logs] COUNT | \
+         SEED [products|residuals|loads|rules|logs] round NUMBER | answers {} | differences | program PATH | load",
         answers::NAMES.join("|")
     );
     ExitCode::from(2)
@@ -82,6 +83,7 @@ fn asked(words: &[&str]) -> Option<Report> {
         }
         [seed, "loads", count] => Some(differential::run_loads(number(seed)?, number(count)?)),
         [seed, "rules", count] => Some(differential::run_rules(number(seed)?, number(count)?)),
+        [seed, "logs", count] => Some(differential::run_logs(number(seed)?, number(count)?)),
         [seed, "round", round] => one(differential::round, number(seed)?, number(round)?),
         [seed, "products", "round", round] => {
             one(differential::product_round, number(seed)?, number(round)?)
@@ -94,6 +96,9 @@ fn asked(words: &[&str]) -> Option<Report> {
         }
         [seed, "rules", "round", round] => {
             one(differential::rule_round, number(seed)?, number(round)?)
+        }
+        [seed, "logs", "round", round] => {
+            one(differential::log_round, number(seed)?, number(round)?)
         }
         _ => None,
     }

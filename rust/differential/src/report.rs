@@ -51,6 +51,10 @@ pub enum Kind {
     RuleCall,
     /// All answers and the last state of a run from the empty state that is cut into calls, against the plain statement of the whole run.
     RuleRun,
+    /// A closing log opened, and after records, from any log; against the plain statement.
+    LogCall,
+    /// The log after each call of a run of opens and records from the empty log, against the plain statement of its last sounding.
+    LogRun,
     Points,
     Splitmix,
     Fingerprint,
@@ -82,6 +86,7 @@ pub enum Kind {
     RefusedFormulaRow,
     RefusedDraw,
     RefusedRule,
+    RefusedLog,
     RefusedPoints,
     RefusedGate,
     RefusedFingerprint,
@@ -89,7 +94,7 @@ pub enum Kind {
 
 impl Kind {
     /// Every kind, in order.
-    pub const ALL: [Kind; 51] = [
+    pub const ALL: [Kind; 54] = [
         Kind::Bank,
         Kind::FindRow,
         Kind::AtomRow,
@@ -113,6 +118,8 @@ impl Kind {
         Kind::DrawnLoad,
         Kind::RuleCall,
         Kind::RuleRun,
+        Kind::LogCall,
+        Kind::LogRun,
         Kind::Points,
         Kind::Splitmix,
         Kind::Fingerprint,
@@ -138,6 +145,7 @@ impl Kind {
         Kind::RefusedFormulaRow,
         Kind::RefusedDraw,
         Kind::RefusedRule,
+        Kind::RefusedLog,
         Kind::RefusedPoints,
         Kind::RefusedGate,
         Kind::RefusedFingerprint,
@@ -166,7 +174,7 @@ pub struct Report {
     round: u64,
     tallies: BTreeMap<Kind, Tally>,
     /// Refused calls by the table's number; the first place has the calls that were answered.
-    refusals: [u64; 11],
+    refusals: [u64; 12],
     /// How often something came up that a run should reach.
     reached: BTreeMap<&'static str, u64>,
     differences: Vec<String>,
@@ -178,7 +186,7 @@ impl Report {
             seed,
             round: 0,
             tallies: BTreeMap::new(),
-            refusals: [0; 11],
+            refusals: [0; 12],
             reached: BTreeMap::new(),
             differences: Vec::new(),
         }
@@ -288,7 +296,7 @@ impl fmt::Display for Report {
         let numbers = &self.refusals[1..];
         writeln!(
             f,
-            "calls refused, by number 1 to 10 (9 is of programs alone): {numbers:?}; answered beside them: {}",
+            "calls refused, by number 1 to 11 (9 is of programs alone): {numbers:?}; answered beside them: {}",
             self.refusals[0]
         )?;
         for (name, count) in &self.reached {

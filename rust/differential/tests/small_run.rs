@@ -1,13 +1,14 @@
 //! A small run: a few rounds, all kinds, no difference but those of docs/DIFFERENCES.md.
 
-use differential::report::Kind;
-use differential::{run, run_loads, run_products, run_residuals, run_rules};
+use differential::report::{Kind, Report};
+use differential::{run, run_loads, run_logs, run_products, run_residuals, run_rules};
 
 const COUNT: u64 = 600;
 const PRODUCTS: u64 = 4000;
 const RESIDUALS: u64 = 4000;
 const DRAWN: u64 = 2000;
 const RULES: u64 = 4000;
+const LOGS: u64 = 2000;
 const RAW: u64 = 4000;
 
 #[test]
@@ -90,13 +91,27 @@ fn loads() {
 #[test]
 fn rules() {
     let report = run_rules(1, RULES);
+    let kinds = [Kind::RuleCall, Kind::RuleRun, Kind::RefusedRule];
+    meets(&report, kinds, ("rule: ", 10), &[1, 2, 4, 6, 10]);
+}
+
+/// A run of logs meets every way of a record through an open log, logs that aren't, counters at their ends, and every refusal.
+#[test]
+fn logs() {
+    let report = run_logs(1, LOGS);
+    let kinds = [Kind::LogCall, Kind::LogRun, Kind::RefusedLog];
+    meets(&report, kinds, ("log: ", 15), &[1, 2, 4, 6, 10, 11]);
+}
+
+/// A hundred of each kind, no difference, so many things that all came up, and every refusal.
+fn meets(report: &Report, kinds: [Kind; 3], (named, count): (&str, usize), refusals: &[usize]) {
     assert_eq!(report.others(), 0, "{report}");
-    for kind in [Kind::RuleCall, Kind::RuleRun, Kind::RefusedRule] {
+    for kind in kinds {
         assert!(report.of_kind(kind) > 100, "{report}");
     }
     let text = report.to_string();
-    let counts = text.lines().filter(|line| line.starts_with("rule: "));
-    assert_eq!(counts.clone().count(), 10, "{report}");
+    let counts = text.lines().filter(|line| line.starts_with(named));
+    assert_eq!(counts.clone().count(), count, "{report}");
     for count in counts {
         assert!(!count.ends_with(": 0"), "{count}");
     }
@@ -104,9 +119,7 @@ fn rules() {
     let numbers = refused.and_then(|line| line.split(['[', ']']).nth(1));
     let numbers: Vec<&str> = numbers.expect("a list").split(", ").collect();
     assert!(
-        [1, 2, 4, 6, 10]
-            .iter()
-            .all(|&number| numbers[number - 1] != "0"),
+        refusals.iter().all(|&number| numbers[number - 1] != "0"),
         "{report}"
     );
 }

@@ -94,6 +94,24 @@ pub struct RuleReply {
     pub state: u64,
 }
 
+/// The closing log of a station's soundings.
+#[repr(C)]
+pub struct LogState {
+    pub open: u32,
+    pub rank: u32,
+    pub number: u64,
+    pub closed_at: u64,
+    pub later: u64,
+    pub windows: [u64; 8],
+}
+
+/// The log after a run's records; as it was beside a refusal.
+#[repr(C)]
+pub struct LogReply {
+    pub refusal: u32,
+    pub log: LogState,
+}
+
 extern "C" {
     pub fn simjaldek_product_search(
         w: u32,
@@ -254,6 +272,30 @@ extern "C" {
         records: *const u64,
         records_len: usize,
     ) -> RuleReply;
+
+    pub fn simjaldek_open_log(log: LogState) -> LogState;
+
+    pub fn simjaldek_run_log(
+        log: LogState,
+        rule_count: usize,
+        ranks: *const u32,
+        ranks_len: usize,
+        ms: *const u32,
+        ms_len: usize,
+        windows: *const u32,
+        windows_len: usize,
+        token_counts: *const u32,
+        token_counts_len: usize,
+        ops: *const u8,
+        ops_len: usize,
+        operands: *const u64,
+        operands_len: usize,
+        nv: u32,
+        w: u32,
+        n: usize,
+        records: *const u64,
+        records_len: usize,
+    ) -> LogReply;
 
     pub fn simjaldek_make_probe_points(nv: u32, w: u32) -> PointsReply;
 

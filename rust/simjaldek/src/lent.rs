@@ -2,9 +2,9 @@
 //! what the table has is refused, and then no buffer has changed. Places beyond the counts stay as they were.
 //!
 //! **Not tested**: that atoms, pairs, points, target and width belong together, that a claimed count is the one that was built, that a
-//! lent row is its formula's or its pair's, and that it is below 2^w; that a rule's state is of a run with the same formula and width. Such
-//! a call answers for the words that it gets. [`Bank`](crate::Bank), [`Index`](crate::Index) and [`Rule`](crate::Rule) keep together what
-//! belongs together.
+//! lent row is its formula's or its pair's, and that it is below 2^w; that a rule's state is of a run with the same formula and width, or a
+//! log's of runs with the same rules in the same places. Such a call answers for the words that it gets. [`Bank`](crate::Bank),
+//! [`Index`](crate::Index), [`Rule`](crate::Rule) and [`Log`](crate::Log) keep together what belongs together.
 //!
 //! A gate's number is 0 And, 1 Or, 2 Xor, 3 Add, 4 Mul; these are not the opcodes of tokens (2 Add, 3 Mul, 4 And, 5 Or, 6 Xor).
 //!
@@ -14,8 +14,8 @@
 
 use crate::ffi;
 use crate::{
-    AtomSlot, Completion, Cost, Gate, PairSlot, Point, Product, Refusal, Row, Token, Window,
-    ATOMS_MAX, ROW_WORDS,
+    AtomSlot, Completion, Cost, Gate, LogState, PairSlot, Point, Product, Refusal, Row, Token,
+    Window, ATOMS_MAX, ROW_WORDS,
 };
 
 /// Atoms' rows: `count` atoms, sixteen words each in `rows`.
@@ -124,6 +124,39 @@ pub struct Records<'a> {
     pub count: usize,
     /// Their words, one record after the other.
     pub words: &'a [u64],
+}
+
+impl<'a> Records<'a> {
+    /// No records.
+    pub const NONE: Records<'static> = Records {
+        count: 0,
+        words: &[],
+    };
+
+    /// All records that there are words of; the calls refuse 4 if the last of them lacks some.
+    pub(crate) fn all(num_vars: u32, words: &'a [u64]) -> Self {
+        let count = words.len().div_ceil(num_vars as usize);
+        Records { count, words }
+    }
+}
+
+/// Ranked rules of a closing log: `count` rules, 64 places for tokens each. A rule's place is that of its window in the log.
+#[derive(Clone, Copy, Debug)]
+pub struct Rules<'a> {
+    /// How many rules are claimed.
+    pub count: usize,
+    /// The rank of each, 1 to 8.
+    pub ranks: &'a [u32],
+    /// M of each.
+    pub ms: &'a [u32],
+    /// W of each.
+    pub windows: &'a [u32],
+    /// How many tokens the formula of each has.
+    pub token_counts: &'a [u32],
+    /// 64 opcodes for each; those past its tokens are not read.
+    pub ops: &'a [u8],
+    /// 64 operands for each; those past its tokens are not read.
+    pub operands: &'a [u64],
 }
 
 /// The arrays that a bank is built into.
@@ -545,6 +578,84 @@ pub fn run_rule(
     // a refused call hands the state back as it was
     debug_assert!(reply.refusal == 0 || reply.state == state);
     unless_refused(reply.refusal, reply.state)
+}
+
+/// The log with a new sounding: open, no record, no close, no later firing, and the windows afresh, whatever it was. Refuses nothing.
+#[inline]
+pub fn open_log(log: LogState) -> LogState {
+    // SAFETY: the function takes numbers only.
+    from_declared(unsafe { ffi::simjaldek_open_log(declared(log)) })
+}
+
+/// The log after these records: of the open sounding each is numbered, and every rule is fed it as [`run_rule`] does, with the window of its
+/// place. The first record at which some rule fires closes the sounding, with its number and the least rank that fires; a later one with a
+/// firing is counted, once however many fire. Number and count stay at 2^64 - 1. Where no sounding is open nothing changes, and windows past
+/// the rules never do. The words of records may be any, and so may the log, so that a run is the same wherever it is cut into calls;
+/// [`Log`](crate::Log) keeps it. Refuses 1, 2, 4, 6, 10, and 11 for no rule, more than eight, a rank that isn't 1 to 8 or two equal ranks: over
+/// all claimed rules, also without a record or a sounding; the log then is what it was.
+// records may come one by one: no function between
+#[inline]
+pub fn run_log(
+    num_vars: u32,
+    width: u32,
+    rules: Rules<'_>,
+    log: LogState,
+    records: Records<'_>,
+) -> Result<LogState, Refusal> {
+    // SAFETY: each pointer comes with its own slice's length; the function reads within these lengths and keeps no pointer.
+    let reply = unsafe {
+        ffi::simjaldek_run_log(
+            declared(log),
+            rules.count,
+            rules.ranks.as_ptr(),
+            rules.ranks.len(),
+            rules.ms.as_ptr(),
+            rules.ms.len(),
+            rules.windows.as_ptr(),
+            rules.windows.len(),
+            rules.token_counts.as_ptr(),
+            rules.token_counts.len(),
+            rules.ops.as_ptr(),
+            rules.ops.len(),
+            rules.operands.as_ptr(),
+            rules.operands.len(),
+            num_vars,
+            width,
+            records.count,
+            records.words.as_ptr(),
+            records.words.len(),
+        )
+    };
+    let next = from_declared(reply.log);
+    // a refused call hands the log back as it was
+    debug_assert!(reply.refusal == 0 || next == log);
+    unless_refused(reply.refusal, next)
+}
+
+/// A log as the library takes it.
+#[inline]
+fn declared(log: LogState) -> ffi::LogState {
+    ffi::LogState {
+        open: log.open,
+        rank: log.rank,
+        number: log.number,
+        closed_at: log.closed_at,
+        later: log.later,
+        windows: log.windows,
+    }
+}
+
+/// A log that the library hands back.
+#[inline]
+fn from_declared(log: ffi::LogState) -> LogState {
+    LogState {
+        open: log.open,
+        rank: log.rank,
+        number: log.number,
+        closed_at: log.closed_at,
+        later: log.later,
+        windows: log.windows,
+    }
 }
 
 /// The sixteen points that splitmix64 gives. Refuses 1, 2.

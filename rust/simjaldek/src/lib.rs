@@ -87,6 +87,26 @@
 //! # Ok::<(), Box<dyn std::error::Error>>(())
 //! ```
 //!
+//! A [`Log`] closes each sounding once: at the first record where one of up to eight rules fires, by the least rank that fires there.
+//!
+//! ```
+//! use simjaldek::{Close, FormulaBuf, Log, RankedRule, Window};
+//!
+//! // burst before signal loss: v0 is the fall since the record before, v1 how many frames were lost
+//! let [fell, lost]: [FormulaBuf; 2] = ["v0".parse()?, "v1 c12 &".parse()?];
+//! let window = Window { least: 2, records: 3 };
+//! let rules = [
+//!     RankedRule { rank: 1, formula: fell.as_formula(), window },
+//!     RankedRule { rank: 2, formula: lost.as_formula(), window },
+//! ];
+//! let mut log = Log::new(2, 16, &rules)?;
+//! log.open();
+//! assert_eq!(log.records(&[0, 1, 40, 9])?, None);
+//! assert_eq!(log.records(&[95, 8, 98, 15])?, Some(Close { number: 3, rank: 1 }));
+//! assert_eq!((log.number(), log.later()), (4, 1));
+//! # Ok::<(), Box<dyn std::error::Error>>(())
+//! ```
+//!
 //! And a [`Load`] for tests: formulas drawn from a seed, the same ones wherever they are drawn.
 
 #![warn(missing_docs)]
@@ -100,6 +120,7 @@ mod formula;
 mod index;
 pub mod lent;
 mod load;
+mod log;
 mod parse;
 mod points;
 mod refusal;
@@ -116,13 +137,15 @@ pub use lent::{
     wrapping_mul,
 };
 pub use load::Load;
+pub use log::{Log, RankedRule};
 pub use parse::{ParseFormulaError, ParseTokenError};
 pub use points::{Points, ReadError, Reading};
 pub use refusal::Refusal;
 pub use rule::Rule;
 pub use types::{
-    AtomSlot, Completion, Cost, Gate, PairSlot, Point, Product, Row, Window, ATOMS_MAX,
-    ATOM_TOKENS, FORMULA_TOKENS_MAX, PAIRS_MAX, POINT_WORDS, ROW_WORDS, WINDOW_MAX,
+    AtomSlot, Close, Completion, Cost, Gate, LogState, PairSlot, Point, Product, Row, Window,
+    ATOMS_MAX, ATOM_TOKENS, FORMULA_TOKENS_MAX, LOG_RULES_MAX, PAIRS_MAX, POINT_WORDS, ROW_WORDS,
+    WINDOW_MAX,
 };
 
 /// Whether the tokens are a formula over so many variables: what refusal 6 tests. [`Formula::fault`] says what they lack. Any count of

@@ -28,6 +28,8 @@ pub enum Refusal {
     Text,
     /// 10: a rule's M is not 1 to W, or its W is not 1 to 64.
     Window,
+    /// 11: no rule of a closing log, more than eight, a rank that is not 1 to 8, or two equal ranks.
+    Ranks,
     /// A number that the table doesn't have.
     Other(u32),
 }
@@ -46,6 +48,7 @@ impl Refusal {
             8 => Refusal::OrderList,
             9 => Refusal::Text,
             10 => Refusal::Window,
+            11 => Refusal::Ranks,
             other => Refusal::Other(other),
         }
     }
@@ -63,6 +66,7 @@ impl Refusal {
             Refusal::OrderList => 8,
             Refusal::Text => 9,
             Refusal::Window => 10,
+            Refusal::Ranks => 11,
             Refusal::Other(number) => number,
         }
     }
@@ -90,6 +94,7 @@ impl fmt::Display for Refusal {
             Refusal::OrderList => "the order list isn't the one of the rows",
             Refusal::Text => "the text isn't the unsigned decimals that are asked for",
             Refusal::Window => "a rule's M not 1 to W, or its W not 1 to 64",
+            Refusal::Ranks => "no rule, more than 8, a rank not 1 to 8, or two equal ranks",
             Refusal::Other(_) => "unknown",
         };
         write!(f, "refused {}: {condition}", self.number())

@@ -69,12 +69,8 @@ impl Rule {
             window,
             state: 0,
         };
-        let none = Records {
-            count: 0,
-            words: &[],
-        };
         // for its refusal
-        rule.run(none, &mut [])
+        rule.run(Records::NONE, &mut [])
             .map_err(|refusal| FormulaError::new(refusal, num_vars, formula))?;
         Ok(rule)
     }
@@ -92,7 +88,7 @@ impl Rule {
     /// # Ok::<(), Box<dyn std::error::Error>>(())
     /// ```
     pub fn feed(&mut self, records: &[u64]) -> Result<Vec<bool>, Refusal> {
-        let mut answers = vec![0; self.count(records)];
+        let mut answers = vec![0; self.records(records).count];
         self.feed_into(records, &mut answers)?;
         Ok(answers.into_iter().map(fires).collect())
     }
@@ -111,10 +107,9 @@ impl Rule {
     /// # Ok::<(), Box<dyn std::error::Error>>(())
     /// ```
     pub fn feed_into(&mut self, records: &[u64], answers: &mut [u8]) -> Result<usize, Refusal> {
-        let count = self.count(records);
-        let words = records;
-        self.state = self.run(Records { count, words }, answers)?;
-        Ok(count)
+        let records = self.records(records);
+        self.state = self.run(records, answers)?;
+        Ok(records.count)
     }
 
     /// Whether it fires at the next record: a word for each variable. Refuses 4 for fewer words, and for more.
@@ -201,9 +196,8 @@ impl Rule {
         self.window
     }
 
-    /// How many records there are words of; the library refuses 4 if the last of them lacks some.
-    fn count(&self, words: &[u64]) -> usize {
-        words.len().div_ceil(self.num_vars as usize)
+    fn records<'a>(&self, words: &'a [u64]) -> Records<'a> {
+        Records::all(self.num_vars, words)
     }
 
     /// Answers the records: the state after them.

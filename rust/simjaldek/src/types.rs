@@ -1,4 +1,4 @@
-//! The words that the calls speak in: rows, points, slots, gates, costs, products, completions, windows.
+//! The words that the calls speak in: rows, points, slots, gates, costs, products, completions, windows, logs.
 
 use crate::Token;
 use std::fmt;
@@ -17,6 +17,8 @@ pub const ATOM_TOKENS: usize = 6;
 pub const FORMULA_TOKENS_MAX: usize = 64;
 /// The most records of a rule's window.
 pub const WINDOW_MAX: u32 = 64;
+/// The most rules of a closing log.
+pub const LOG_RULES_MAX: usize = 8;
 
 /// Sixteen words: a formula's values at the sixteen points.
 pub type Row = [u64; ROW_WORDS];
@@ -136,4 +138,46 @@ pub struct Window {
     pub least: u32,
     /// W: of how many, the present one included.
     pub records: u32,
+}
+
+/// A closing log: what it shows of the sounding that was opened last, and what each rule's window has seen of it. Any numbers may be handed
+/// in; all zeros, the default, is the empty log, before any opening.
+#[derive(Clone, Copy, Debug, Default, PartialEq, Eq, Hash)]
+pub struct LogState {
+    /// Whether a sounding is open: 0 for no, any other number for yes; the calls hand back 0 or 1.
+    pub open: u32,
+    /// The rank that closed it; 0 for none.
+    pub rank: u32,
+    /// The number of its last record, from 1; 0 before the first.
+    pub number: u64,
+    /// The number of the record that closed it; 0 for none.
+    pub closed_at: u64,
+    /// How many records after that had a firing.
+    pub later: u64,
+    /// For the rule at each place the marks of the last 64 records, as [`Rule::state`](crate::Rule::state) has them.
+    pub windows: [u64; LOG_RULES_MAX],
+}
+
+impl LogState {
+    /// Whether a sounding is open.
+    pub fn is_open(&self) -> bool {
+        self.open != 0
+    }
+
+    /// The close; none if there was none.
+    pub fn close(&self) -> Option<Close> {
+        (self.closed_at != 0).then_some(Close {
+            number: self.closed_at,
+            rank: self.rank,
+        })
+    }
+}
+
+/// A sounding's close: the first record at which some rule fired, and the least rank of those that fired there.
+#[derive(Clone, Copy, Debug, PartialEq, Eq, Hash)]
+pub struct Close {
+    /// The record's number in its sounding, from 1.
+    pub number: u64,
+    /// The rank.
+    pub rank: u32,
 }

@@ -25,7 +25,8 @@ const HEAD: &str = "/* The static library of Simjaldek, for C programs; docs/CAL
    width, for completions only where a bank build left the atoms, or their rows are below 2^w, or one of them is 0 modulo 2^w.
    That arrays, counts and widths belong together is not tested.
 
-   A rule's run begins with state 0; each call after the first is handed the state that the one before it gave.
+   A rule's run begins with state 0, a closing log as zeros; each call after the first is handed the state, or the log, that
+   the one before it gave.
 
    Opcodes: 0 constant, 1 variable, 2 Add, 3 Mul, 4 And, 5 Or, 6 Xor, 7 Not, 8 Neg. Gates have numbers of their own: 0 And,
    1 Or, 2 Xor, 3 Add, 4 Mul.
@@ -33,8 +34,9 @@ const HEAD: &str = "/* The static library of Simjaldek, for C programs; docs/CAL
    An array goes as its first element's address and its length. An array that is written must not overlap another.
    `refusal`, where a reply has it, is 0 for an answer, else why there is none: 1 variable count, 2 width, 3 limit, 4 array
    too short, 5 word not below 2^w, 6 no formula, no gate or no token limit, 7 too many atoms or pairs, a slot past the count
-   or a pair's gate above 4, 8 order list, 10 m not 1 to the window or the window not 1 to 64. Beside a refusal no array was
-   written, and the rest of the reply is zeros, but for a state that was handed in: it is as it was. */
+   or a pair's gate above 4, 8 order list, 10 m not 1 to the window or the window not 1 to 64, 11 no rule, more than eight, a
+   rank not 1 to 8 or two equal ranks. Beside a refusal no array was written, and the rest of the reply is zeros, but for a
+   state or a log that was handed in: it is as it was. */
 #ifndef SIMJALDEK_H
 #define SIMJALDEK_H
 
@@ -183,6 +185,8 @@ atoms 53 pairs 4930 whole
 v0 v1 ^ v0 v1 + v0 v1 + * +
 the same values at the sixteen points; elsewhere unknown
 the rule fires at records 3 4 5
+sounding 1: closed at record 3 by rank 1, later 2
+sounding 2: closed at record 2 by rank 2, later 1
 ";
     assert_eq!(printed, text);
 }

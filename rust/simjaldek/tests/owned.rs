@@ -1,12 +1,13 @@
-//! Points, bank and index that own what they were told: what can't be mixed up, and what a caller still can.
+//! Points, bank, index and log that own what they were told: what can't be mixed up, and what a caller still can.
 
 mod common;
 
 use common::{one_variable, p2, repeated, IndexBuffers};
 use simjaldek::lent::{self, Built};
 use simjaldek::{
-    compute_cost, splitmix64, Atom, Bank, Completion, CompletionAnswer, FormulaBuf, Gate, Index,
-    Pair, PairSlot, Points, Product, ProductAnswer, Row, Token, PAIRS_MAX,
+    compute_cost, splitmix64, Atom, Bank, Close, Completion, CompletionAnswer, FormulaBuf, Gate,
+    Index, Log, Pair, PairSlot, Points, Product, ProductAnswer, RankedRule, Row, Token, Window,
+    PAIRS_MAX,
 };
 
 fn parsed(text: &str) -> FormulaBuf {
@@ -318,4 +319,28 @@ fn views_of_copies_are_not_equal() {
     assert_eq!(pair, again);
     assert_ne!(pair, copy.pair(PairSlot(3)));
     assert_ne!(pair, index.pair(PairSlot(4)));
+}
+
+/// Windows go by the rules' places. A [`Log`] keeps both together; a state that is stored can be gone on with by rules in other places, and
+/// then each goes on from what another has seen.
+#[test]
+fn log_of_rules_in_other_places() {
+    let formulas = ["v0", "v1"].map(parsed);
+    let window = Window {
+        least: 2,
+        records: 2,
+    };
+    let [first, second] = [1, 2].map(|rank| RankedRule {
+        rank,
+        formula: formulas[rank as usize - 1].as_formula(),
+        window,
+    });
+    let mut log = Log::new(2, 8, &[first, second]).unwrap();
+    log.open();
+    log.record(&[1, 0]).unwrap();
+    let mut other = Log::new(2, 8, &[second, first]).unwrap();
+    other.resume(log.state());
+    assert_ne!(log, other);
+    assert_eq!(log.record(&[1, 0]), Ok(Some(Close { number: 2, rank: 1 })));
+    assert_eq!(other.record(&[1, 0]), Ok(None));
 }

@@ -6,11 +6,11 @@ use common::{
     one_variable, p2, BankBuffers, IndexBuffers, OwnAtoms, OwnPairs, FILL, FILL_U32, FILL_U64,
 };
 use simjaldek::lent::{
-    self, Atoms, Built, PairRows, Pairs, Records, Tokens, WrittenAtoms, WrittenPairs,
+    self, Atoms, Built, PairRows, Pairs, Records, Rules, Tokens, WrittenAtoms, WrittenPairs,
 };
 use simjaldek::{
-    AtomSlot, Bank, Formula, Gate, Index, Load, PairSlot, Points, Product, Refusal, Rule, Window,
-    ATOMS_MAX, PAIRS_MAX,
+    AtomSlot, Bank, Formula, Gate, Index, Load, Log, LogState, PairSlot, Points, Product,
+    RankedRule, Refusal, Rule, Window, ATOMS_MAX, PAIRS_MAX,
 };
 
 const P2_POINTS: [u64; 4] = [0, 1, 2, 3];
@@ -975,6 +975,324 @@ fn owned_rule_refusals() {
     assert_eq!(rule.state(), 0b101);
     assert_eq!((rule.feed(&[]), rule.state()), (Ok(vec![]), 0b101));
     assert_eq!((rule.feed(&[7, 7]), rule.state()), (Ok(vec![true]), 0b1011));
+}
+
+// ---- closing logs
+
+/// What a log is handed: two rules of three tokens and two records of two words, in arrays that have more.
+#[derive(Clone)]
+struct HandedLog {
+    num_vars: u32,
+    width: u32,
+    rules: usize,
+    ranks: Vec<u32>,
+    ms: Vec<u32>,
+    windows: Vec<u32>,
+    token_counts: Vec<u32>,
+    ops: Vec<u8>,
+    operands: Vec<u64>,
+    count: usize,
+    records: Vec<u64>,
+}
+
+impl HandedLog {
+    /// What is not refused. What is past the tokens and past the rules would be.
+    fn good() -> Self {
+        let mut handed = HandedLog {
+            num_vars: 2,
+            width: 8,
+            rules: 0,
+            ranks: vec![],
+            ms: vec![],
+            windows: vec![],
+            token_counts: vec![],
+            ops: vec![],
+            operands: vec![],
+            count: 2,
+            records: vec![1, u64::MAX, 1, 2, 3],
+        };
+        handed.grow(2);
+        handed.ranks.swap(0, 1);
+        (handed.ms[0], handed.windows[0]) = (3, 5);
+        for numbers in [
+            &mut handed.ranks,
+            &mut handed.ms,
+            &mut handed.windows,
+            &mut handed.token_counts,
+        ] {
+            numbers.push(0);
+        }
+        handed.ops.push(9);
+        handed.operands.push(9);
+        handed
+    }
+
+    /// As many rules as this, each of those that come with the next rank and a window of one record.
+    fn grow(&mut self, rules: usize) {
+        for place in self.rules..rules {
+            let put = |numbers: &mut Vec<u32>, number| {
+                numbers.truncate(place);
+                numbers.push(number);
+            };
+            put(&mut self.ranks, place as u32 + 1);
+            put(&mut self.ms, 1);
+            put(&mut self.windows, 1);
+            put(&mut self.token_counts, 3);
+            self.ops.truncate(64 * place);
+            self.ops.extend([1, 1, 4].into_iter().chain([9; 61]));
+            self.operands.truncate(64 * place);
+            self.operands.extend([0, 1, 0].into_iter().chain([9; 61]));
+            self.rules = place + 1;
+        }
+    }
+
+    fn run(&self, log: LogState) -> Result<LogState, Refusal> {
+        let rules = Rules {
+            count: self.rules,
+            ranks: &self.ranks,
+            ms: &self.ms,
+            windows: &self.windows,
+            token_counts: &self.token_counts,
+            ops: &self.ops,
+            operands: &self.operands,
+        };
+        let records = Records {
+            count: self.count,
+            words: &self.records,
+        };
+        lent::run_log(self.num_vars, self.width, rules, log, records)
+    }
+
+    fn number(&self) -> u32 {
+        let [empty, open] = [LogState::default(), lent::open_log(LogState::default())];
+        let any = LogState {
+            open: 7,
+            rank: 99,
+            number: u64::MAX,
+            ..open
+        };
+        let refused = number(self.run(empty));
+        for log in [open, any] {
+            assert_eq!(number(self.run(log)), refused, "whatever the log");
+        }
+        refused
+    }
+}
+
+/// A refusal's number and what brings it about.
+type LogFault = (u32, fn(&mut HandedLog));
+
+/// By falling number.
+const LOG_FAULTS: [LogFault; 51] = [
+    (11, |h| h.grow(9)),
+    (11, |h| {
+        h.grow(9);
+        h.ranks[8] = 8;
+    }),
+    (11, |h| h.grow(100)),
+    (11, |h| h.ranks[0] = 0),
+    (11, |h| h.ranks[1] = 0),
+    (11, |h| h.ranks[1] = 9),
+    (11, |h| h.ranks[1] = u32::MAX),
+    // good when cut to fewer bits
+    (11, |h| h.ranks[0] = 256 + 3),
+    (11, |h| h.ranks[1] = h.ranks[0]),
+    (11, |h| {
+        h.grow(8);
+        h.ranks[7] = 2;
+    }),
+    (11, |h| {
+        h.grow(8);
+        h.ranks[6] = 8;
+    }),
+    (10, |h| h.ms[0] = 0),
+    (10, |h| h.ms[1] = 2),
+    (10, |h| h.ms[1] = 256 + 1),
+    (10, |h| h.windows[0] = 2),
+    (10, |h| h.windows[1] = 0),
+    (10, |h| h.windows[0] = 65),
+    // M is 1 to W, of a W that is none
+    (10, |h| (h.ms[0], h.windows[0]) = (65, 65)),
+    (10, |h| h.windows[1] = 256 + 1),
+    (10, |h| h.windows[1] = u32::MAX),
+    (10, |h| {
+        h.grow(9);
+        h.ms[8] = 2;
+    }),
+    (6, |h| h.token_counts[0] = 0),
+    (6, |h| h.token_counts[1] = 0),
+    (6, |h| h.token_counts[1] = 2),
+    (6, |h| h.token_counts[1] = 4),
+    (6, |h| {
+        h.ops[1..64].fill(7);
+        h.operands[1..64].fill(0);
+        h.token_counts[0] = 65;
+    }),
+    (6, |h| h.token_counts[1] = 256 + 3),
+    (6, |h| h.token_counts[1] = u32::MAX),
+    (6, |h| h.ops[0] = 9),
+    (6, |h| h.ops[64 + 2] = 255),
+    (6, |h| h.operands[64 + 1] = 2),
+    (6, |h| h.operands[2] = 1),
+    // an operand is missing, and two values are left
+    (6, |h| h.ops[1] = 7),
+    (6, |h| h.ops[64 + 2] = 7),
+    (6, |h| {
+        h.grow(9);
+        h.ops[8 * 64] = 9;
+    }),
+    (4, |h| h.ranks.truncate(h.rules - 1)),
+    (4, |h| h.ms.truncate(h.rules - 1)),
+    (4, |h| h.windows.truncate(h.rules - 1)),
+    (4, |h| h.token_counts.truncate(h.rules - 1)),
+    // all tokens are there
+    (4, |h| h.ops.truncate(64 * h.rules - 1)),
+    (4, |h| h.operands.truncate(64 * h.rules - 1)),
+    (4, |h| h.rules = usize::MAX),
+    // 64 times it is 128 modulo 2^64 (and the other arrays are too short all the same)
+    (4, |h| h.rules = (1 << 58) + 2),
+    (4, |h| h.records.truncate(3)),
+    (4, |h| h.count = 3),
+    // twice it is 4 modulo 2^64
+    (4, |h| h.count = usize::MAX / 2 + 3),
+    (2, |h| h.width = 0),
+    (2, |h| h.width = 65),
+    (1, |h| h.num_vars = 0),
+    (1, |h| h.num_vars = 7),
+    (1, |h| h.num_vars = 256 + 2),
+];
+
+#[test]
+fn log_refusals() {
+    // v0 v1 & of 1 with all bits and of 1 with 2: the second rule, of the less rank, fires on the first record
+    let closed = LogState {
+        open: 1,
+        rank: 1,
+        number: 2,
+        closed_at: 1,
+        later: 0,
+        windows: [0b10, 0b10, 0, 0, 0, 0, 0, 0],
+    };
+    let open = lent::open_log(LogState::default());
+    assert_eq!(HandedLog::good().run(open), Ok(closed));
+    for (place, (refused, fault)) in LOG_FAULTS.iter().enumerate() {
+        let mut handed = HandedLog::good();
+        fault(&mut handed);
+        assert_eq!(handed.number(), *refused, "fault {place}");
+        if *refused != 4 {
+            handed.count = 0;
+            assert_eq!(handed.number(), *refused, "fault {place}, no records");
+        }
+    }
+}
+
+/// The least number counts: two faults of different numbers.
+#[test]
+fn log_faults_at_once() {
+    for (place, (greater, first)) in LOG_FAULTS.iter().enumerate() {
+        for (least, second) in LOG_FAULTS.iter().filter(|(least, _)| least < greater) {
+            let mut handed = HandedLog::good();
+            first(&mut handed);
+            second(&mut handed);
+            assert_eq!(handed.number(), *least, "fault {place}, {least}");
+        }
+    }
+}
+
+/// All of them at once, and one number less after the other.
+#[test]
+fn log_faults_of_every_number() {
+    let mut handed = HandedLog::good();
+    for number_left in [11, 10, 6, 4, 2, 1] {
+        let of_number = |(number, _): &&LogFault| *number == number_left;
+        let (_, fault) = LOG_FAULTS.iter().find(of_number).expect("it has a fault");
+        fault(&mut handed);
+        assert_eq!(handed.number(), number_left);
+    }
+}
+
+/// No rule is 11, after what there is to refuse without one; nothing is asked of the rules' arrays.
+#[test]
+fn log_without_a_rule() {
+    let mut handed = HandedLog::good();
+    handed.rules = 0;
+    assert_eq!(handed.number(), 11);
+    for numbers in [
+        &mut handed.ranks,
+        &mut handed.ms,
+        &mut handed.windows,
+        &mut handed.token_counts,
+    ] {
+        numbers.clear();
+    }
+    handed.ops.clear();
+    handed.operands.clear();
+    assert_eq!(handed.number(), 11);
+    handed.count = 3;
+    assert_eq!(handed.number(), 4);
+    handed.width = 65;
+    assert_eq!(handed.number(), 2);
+    handed.num_vars = 0;
+    assert_eq!(handed.number(), 1);
+}
+
+/// One to eight rules in arrays that are just long enough, or one place short.
+#[test]
+fn log_arrays_as_long_as_needed() {
+    for rules in 1..=8 {
+        let mut handed = HandedLog::good();
+        (handed.rules, handed.count) = (0, 0);
+        handed.records.clear();
+        handed.grow(rules);
+        assert_eq!(handed.number(), 0);
+        let shortened: [fn(&mut HandedLog); 6] = [
+            |h| shorten(&mut h.ranks),
+            |h| shorten(&mut h.ms),
+            |h| shorten(&mut h.windows),
+            |h| shorten(&mut h.token_counts),
+            |h| shorten(&mut h.ops),
+            |h| shorten(&mut h.operands),
+        ];
+        for shortened in shortened {
+            let mut short = handed.clone();
+            shortened(&mut short);
+            assert_eq!(short.number(), 4);
+        }
+    }
+}
+
+/// A log is refused as a call with no records is.
+#[test]
+fn owned_log_refusals() {
+    for (place, (_, fault)) in LOG_FAULTS.iter().enumerate() {
+        let mut handed = HandedLog::good();
+        fault(&mut handed);
+        handed.count = 0;
+        if handed.number() == 4 {
+            continue;
+        }
+        let rule = |place: usize| {
+            let tokens = handed.token_counts[place].min(65) as usize;
+            let formula = Formula::new(
+                &handed.ops[64 * place..][..tokens],
+                &handed.operands[64 * place..][..tokens],
+            );
+            RankedRule {
+                rank: handed.ranks[place],
+                formula: formula.expect("as many of each"),
+                window: Window {
+                    least: handed.ms[place],
+                    records: handed.windows[place],
+                },
+            }
+        };
+        let rules: Vec<RankedRule<'_>> = (0..handed.rules).map(rule).collect();
+        let made = Log::new(handed.num_vars, handed.width, &rules);
+        let refused = made.err().map_or(0, |error| error.refusal().number());
+        assert_eq!(refused, handed.number(), "fault {place}");
+    }
+    let none = Log::new(2, 8, &[]).map_err(Refusal::from);
+    assert_eq!(number(none), 11);
 }
 
 #[test]

@@ -3,11 +3,9 @@
 
 mod common;
 
-use common::FILL;
+use common::{window, Words, FILL};
 use simjaldek::lent::{run_rule, Records};
-use simjaldek::{
-    bitmask, evaluate, splitmix64, Formula, FormulaBuf, Load, Refusal, Rule, Window, WINDOW_MAX,
-};
+use simjaldek::{bitmask, evaluate, Formula, FormulaBuf, Load, Refusal, Rule, Window, WINDOW_MAX};
 
 /// A formula, how many variables it has, and what it gives for a record before that is reduced.
 type Written = (&'static str, u32, fn(&[u64]) -> u64);
@@ -36,20 +34,7 @@ const WIDTHS: [u32; 7] = [1, 2, 8, 16, 33, 63, 64];
 /// How many records: around those that could be taken at once.
 const COUNTS: [usize; 14] = [0, 1, 2, 7, 8, 9, 15, 16, 17, 31, 32, 33, 48, 100];
 
-/// Words one after the other.
-struct Words(u64);
-
 impl Words {
-    fn word(&mut self) -> u64 {
-        let (state, word) = splitmix64(self.0);
-        self.0 = state;
-        word
-    }
-
-    fn below(&mut self, bound: u64) -> u64 {
-        self.word() % bound
-    }
-
     /// A word of one bit or none, below 2^w or not, so that formulas are often zero; seldom any.
     fn sparse(&mut self) -> u64 {
         match self.below(8) {
@@ -63,20 +48,11 @@ impl Words {
         (0..count).map(|_| self.sparse()).collect()
     }
 
-    fn window(&mut self) -> Window {
-        let records = 1 + self.below(WINDOW_MAX.into()) as u32;
-        window(1 + self.below(records.into()) as u32, records)
-    }
-
     /// Words of one variable that are nonzero about M times of W.
     fn marks(&mut self, window: Window, count: usize) -> Vec<u64> {
         let mark = |_| u64::from(self.below(window.records.into()) < window.least.into());
         (0..count).map(mark).collect()
     }
-}
-
-fn window(least: u32, records: u32) -> Window {
-    Window { least, records }
 }
 
 fn windows() -> impl Iterator<Item = Window> {

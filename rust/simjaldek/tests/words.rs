@@ -221,7 +221,7 @@ fn formulas_tested() {
 
 #[test]
 fn refusals_by_number() {
-    for number in 0..12 {
+    for number in 0..13 {
         let refusal = Refusal::from_number(number);
         assert_eq!(refusal.number(), number);
         assert!(refusal
@@ -229,7 +229,7 @@ fn refusals_by_number() {
             .starts_with(&format!("refused {number}: ")));
         assert_eq!(
             matches!(refusal, Refusal::Other(_)),
-            !(1..=10).contains(&number)
+            !(1..=11).contains(&number)
         );
     }
 }

@@ -5,8 +5,8 @@ use std::hint::black_box;
 
 use simjaldek::lent::{self, Records, Tokens};
 use simjaldek::{
-    bitmask, AtomSlot, Bank, Completion, Cost, Formula, FormulaBuf, Gate, Index, Points, Product,
-    Row, Window, FORMULA_TOKENS_MAX, PAIRS_MAX,
+    bitmask, AtomSlot, Bank, Completion, Cost, Formula, FormulaBuf, Gate, Index, Log, LogState,
+    Points, Product, RankedRule, Row, Window, FORMULA_TOKENS_MAX, LOG_RULES_MAX, PAIRS_MAX,
 };
 
 use crate::setting::{BankBuffers, IndexBuffers};
@@ -28,11 +28,12 @@ const NUM_VARS: u32 = 6;
 const WIDTH: u32 = 64;
 /// The listing program's largest limit.
 const LISTED_MAX: usize = 500;
-/// Records of a rule.
+/// Records of a rule, and of a closing log.
 const RULE_RECORDS: usize = 95;
+const LOG_RECORDS: usize = 527;
 
 /// All exports, in the library's order; `empty`, which makes no call, comes first.
-pub const CALLS: [Call; 32] = [
+pub const CALLS: [Call; 34] = [
     call("empty", "", || Box::new(|| ())),
     call("product_search", FULL_INDEX, product_search),
     call("residual_search", FULL_INDEX, residual_search),
@@ -53,6 +54,14 @@ pub const CALLS: [Call; 32] = [
         "run_rule",
         "64 tokens, depth 64 and 33 each way, 95 records",
         run_rule,
+    ),
+    call("open_log", "any log", || {
+        Box::new(|| assert!(lent::open_log(LogState::default()).is_open()))
+    }),
+    call(
+        "run_log",
+        "eight rules of 64 tokens, depth 64 and 33 each way, 527 records",
+        run_log,
     ),
     call("make_probe_points", "six variables", || {
         Box::new(|| assert!(lent::probe_points(NUM_VARS, WIDTH).is_ok()))
@@ -198,6 +207,28 @@ fn run_rule() -> Work {
         let mut answers = [0; RULE_RECORDS];
         let ran = lent::run_rule(NUM_VARS, WIDTH, tokens, window, 0, records, &mut answers);
         assert!(ran.is_ok());
+    })
+}
+
+/// Whole sixteens and whole 256s of records, and fifteen more.
+fn run_log() -> Work {
+    let formulas = formulas();
+    let window = Window {
+        least: 64,
+        records: 64,
+    };
+    let rules = formulas.iter().cycle().zip(1..=LOG_RULES_MAX as u32);
+    let rules = rules.map(|(formula, rank)| RankedRule {
+        rank,
+        formula: formula.as_formula(),
+        window,
+    });
+    let rules: Vec<RankedRule<'_>> = rules.collect();
+    let mut log = Log::new(NUM_VARS, WIDTH, &rules).expect("in range");
+    let records = vec![7; NUM_VARS as usize * LOG_RECORDS];
+    Box::new(move || {
+        log.open();
+        assert!(log.records(&records).is_ok());
     })
 }
 

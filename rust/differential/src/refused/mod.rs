@@ -5,12 +5,14 @@ mod banks;
 mod formulas;
 mod indexes;
 mod loads;
+mod logs;
 mod products;
 mod rules;
 mod searches;
 mod words;
 
 pub use loads::draw;
+pub use logs::log;
 pub use products::product;
 pub use rules::rule;
 pub use searches::residual;
@@ -36,6 +38,7 @@ pub fn compare(inputs: &mut Inputs, report: &mut Report) {
         formulas::compare(inputs, report);
         loads::draw(inputs, report);
         rules::rule(inputs, report);
+        logs::log(inputs, report);
     }
     words::compare(inputs, report);
 }

@@ -73,7 +73,7 @@ fn ours(handed: &RunRule, state: u64, words: &[u64], answers: &mut [u8]) -> Resu
 }
 
 /// An M and a W, good or not; some are good when cut to fewer bits.
-fn window(inputs: &mut Inputs) -> Window {
+pub(super) fn window(inputs: &mut Inputs) -> Window {
     let records = 1 + inputs.below(64) as u32;
     let mut window = Window {
         least: 1 + inputs.below(records.into()) as u32,

@@ -5,6 +5,7 @@ use crate::spec::refusals::{least, NONE};
 /// The longest lent array of a refusal.
 pub const ARRAY_MAX: u64 = 8000;
 
+pub const BAD_VARS: [u64; 5] = [0, 7, 8, 256 + 2, u32::MAX as u64];
 pub const BAD_WIDTHS: [u64; 5] = [0, 65, 66, 128, u32::MAX as u64];
 /// Widths with the least word that is too large.
 pub const TOO_LARGE: [(u32, u64); 4] = [(1, 2), (8, 256), (32, 1 << 32), (63, 1 << 63)];

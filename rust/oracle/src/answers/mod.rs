@@ -7,6 +7,7 @@ mod formulas;
 mod indexes;
 pub mod listings;
 mod loads;
+mod logs;
 mod malformed;
 mod probe;
 mod residuals;
@@ -15,7 +16,7 @@ mod searched;
 mod searches;
 
 /// The names of the data files.
-pub const NAMES: [&str; 9] = [
+pub const NAMES: [&str; 10] = [
     "probe",
     "formulas",
     "banks",
@@ -25,6 +26,7 @@ pub const NAMES: [&str; 9] = [
     "listings",
     "loads",
     "rules",
+    "logs",
 ];
 
 /// The data file of that name, if there is one. The programs' texts hold bytes of any kind.
@@ -39,6 +41,7 @@ pub fn data_file(name: &str) -> Option<Vec<u8>> {
         "listings" => Some(listings::data_file()),
         "loads" => Some(loads::data_file()),
         "rules" => Some(rules::data_file()),
+        "logs" => Some(logs::data_file()),
         _ => None,
     }
 }

@@ -9,9 +9,11 @@ use crate::spec::rule::Rule;
 /// Records that those of a run are picked from.
 const POOL: usize = 24;
 
+const LEANS: [Lean; 4] = [Lean::Left, Lean::Right, Lean::Any, Lean::Any];
+
 /// A formula of so many tokens: any, or one bit of any, which is zero about as often as not.
 pub fn formula(inputs: &mut Inputs, num_vars: u64, width: u32, tokens: usize) -> Formula {
-    let lean = inputs.one_of(&[Lean::Left, Lean::Right, Lean::Any, Lean::Any]);
+    let lean = inputs.one_of(&LEANS);
     let bit = 1 << inputs.below(width.into());
     let is_bit = tokens > 2 && inputs.below(2) == 0;
     let mut maker = Maker {
@@ -19,9 +21,26 @@ pub fn formula(inputs: &mut Inputs, num_vars: u64, width: u32, tokens: usize) ->
         num_vars,
         width,
     };
-    if !is_bit {
-        return maker.formula(tokens, lean);
+    if is_bit {
+        masked(&mut maker, tokens, lean, bit)
+    } else {
+        maker.formula(tokens, lean)
     }
+}
+
+/// One bit of any formula, of so many tokens, three at least.
+pub fn bit_formula(inputs: &mut Inputs, num_vars: u64, width: u32, tokens: usize) -> Formula {
+    let lean = inputs.one_of(&LEANS);
+    let bit = 1 << inputs.below(width.into());
+    let mut maker = Maker {
+        inputs,
+        num_vars,
+        width,
+    };
+    masked(&mut maker, tokens, lean, bit)
+}
+
+fn masked(maker: &mut Maker<'_>, tokens: usize, lean: Lean, bit: u64) -> Formula {
     let mut formula = maker.formula(tokens - 2, lean);
     formula.push(CONSTANT, bit);
     formula.push(AND, 0);
@@ -57,7 +76,7 @@ pub fn records(inputs: &mut Inputs, rule: &Rule, n: usize) -> Vec<u64> {
 }
 
 /// Sets a bit from 2^width up. At width 64 there is none.
-fn raise(inputs: &mut Inputs, word: &mut u64, width: u32) {
+pub(super) fn raise(inputs: &mut Inputs, word: &mut u64, width: u32) {
     if width < 64 {
         *word |= 1 << (u64::from(width) + inputs.below(u64::from(64 - width)));
     }

@@ -168,12 +168,17 @@ impl Handed {
 
     /// The formula test, for arrays that are long enough.
     fn is_formula(&self) -> bool {
-        if self.count == 0 || self.count > TOKENS_MAX as u64 {
-            return false;
-        }
-        let count = self.count as usize;
-        is_formula(self.num_vars, &self.ops[..count], &self.operands[..count])
+        are_formula(self.num_vars, self.count, &self.ops, &self.operands)
     }
+}
+
+/// Whether so many tokens of arrays that are long enough are one to 64 that pass the formula test.
+pub(super) fn are_formula(num_vars: u64, count: u64, ops: &[u64], operands: &[u64]) -> bool {
+    if count == 0 || count > TOKENS_MAX as u64 {
+        return false;
+    }
+    let count = count as usize;
+    is_formula(num_vars, &ops[..count], &operands[..count])
 }
 
 /// The formula test of tokens that are neither none nor too many.

@@ -1,14 +1,15 @@
-//! What is handed to the candidates, to the searches, to the test load and to rules, good or not.
+//! What is handed to the candidates, to the searches, to the test load, to rules and to the closing log, good or not.
 
 use crate::access::Row;
 
 use super::bank::{ATOMS_MAX, ATOM_TOKENS};
-use super::formulas::{is_formula, TOKENS_MAX, VARS_MAX};
+use super::formulas::{are_formula, is_formula, TOKENS_MAX, VARS_MAX};
 use super::index::PAIRS_MAX;
+use super::log::RULES_MAX;
 use super::product::order_list;
 use super::refusals::{
-    NONE, REFUSED_COUNT, REFUSED_FORMULA, REFUSED_LENGTH, REFUSED_ORDER, REFUSED_VARS,
-    REFUSED_WIDTH, REFUSED_WINDOW, REFUSED_WORD,
+    NONE, REFUSED_COUNT, REFUSED_FORMULA, REFUSED_LENGTH, REFUSED_ORDER, REFUSED_RANKS,
+    REFUSED_VARS, REFUSED_WIDTH, REFUSED_WINDOW, REFUSED_WORD,
 };
 
 /// The listed pairs.
@@ -248,7 +249,7 @@ impl RunRule {
             REFUSED_LENGTH
         } else if !self.is_formula() {
             REFUSED_FORMULA
-        } else if !(1..=64).contains(&self.window) || !(1..=self.window).contains(&self.m) {
+        } else if !is_window(self.m, self.window) {
             REFUSED_WINDOW
         } else {
             NONE
@@ -264,12 +265,81 @@ impl RunRule {
 
     /// The formula test, for arrays that are long enough.
     fn is_formula(&self) -> bool {
-        if !(1..=TOKENS_MAX as u64).contains(&self.count) {
-            return false;
-        }
-        let count = self.count as usize;
-        is_formula(self.num_vars, &self.ops[..count], &self.operands[..count])
+        are_formula(self.num_vars, self.count, &self.ops, &self.operands)
     }
+}
+
+fn is_window(m: u64, window: u64) -> bool {
+    (1..=64).contains(&window) && (1..=window).contains(&m)
+}
+
+/// What is handed to the call that runs a closing log; of the records the length of their array. Each rule has 64 places for tokens.
+#[derive(Clone, Debug)]
+pub struct RunLog {
+    pub num_vars: u64,
+    pub width: u64,
+    pub rules: u64,
+    pub ranks: Vec<u64>,
+    pub ms: Vec<u64>,
+    pub windows: Vec<u64>,
+    pub token_counts: Vec<u64>,
+    pub ops: Vec<u64>,
+    pub operands: Vec<u64>,
+    pub n: u64,
+    pub records: u64,
+}
+
+impl RunLog {
+    /// The table for a closing log: 1, 2, 4, 6, 10, 11, the least that applies; 6 and 10 of every rule that is claimed.
+    pub fn refusal(&self) -> u64 {
+        if !(1..=VARS_MAX).contains(&self.num_vars) {
+            return REFUSED_VARS;
+        }
+        if !(1..=64).contains(&self.width) {
+            return REFUSED_WIDTH;
+        }
+        if self.is_array_short() {
+            return REFUSED_LENGTH;
+        }
+        let mut rules = 0..self.rules as usize;
+        if !rules.clone().all(|rule| self.is_formula(rule)) {
+            return REFUSED_FORMULA;
+        }
+        if !rules.all(|rule| is_window(self.ms[rule], self.windows[rule])) {
+            return REFUSED_WINDOW;
+        }
+        if !are_ranks(&self.ranks[..self.rules as usize]) {
+            return REFUSED_RANKS;
+        }
+        NONE
+    }
+
+    fn is_array_short(&self) -> bool {
+        let by_rule = [&self.ranks, &self.ms, &self.windows, &self.token_counts];
+        let by_token = [&self.ops, &self.operands];
+        let short = |array: &Vec<u64>, places| is_short(array.len() as u64, places, self.rules);
+        by_rule.iter().any(|array| short(array, 1))
+            || by_token
+                .iter()
+                .any(|array| short(array, TOKENS_MAX as u128))
+            || is_short(self.records, self.num_vars.into(), self.n)
+    }
+
+    /// The formula test of a rule, for arrays that are long enough.
+    fn is_formula(&self, rule: usize) -> bool {
+        let [ops, operands] = [&self.ops, &self.operands].map(|array| &array[TOKENS_MAX * rule..]);
+        are_formula(self.num_vars, self.token_counts[rule], ops, operands)
+    }
+}
+
+/// One to eight ranks of 1 to 8, no two equal.
+fn are_ranks(ranks: &[u64]) -> bool {
+    let most = RULES_MAX as u64;
+    let times = |rank: u64| ranks.iter().filter(|&&other| other == rank).count();
+    (1..=RULES_MAX).contains(&ranks.len())
+        && ranks
+            .iter()
+            .all(|&rank| (1..=most).contains(&rank) && times(rank) == 1)
 }
 
 #[cfg(test)]

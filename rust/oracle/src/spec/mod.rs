@@ -8,6 +8,7 @@ pub mod index;
 pub mod lent;
 pub mod listing;
 pub mod load;
+pub mod log;
 pub mod product;
 pub mod refusals;
 pub mod residual;

@@ -11,6 +11,7 @@ pub const REFUSED_COUNT: u64 = 7;
 pub const REFUSED_ORDER: u64 = 8;
 pub const REFUSED_TEXT: u64 = 9;
 pub const REFUSED_WINDOW: u64 = 10;
+pub const REFUSED_RANKS: u64 = 11;
 
 /// The less of two refusals, where 0 is none.
 pub fn least(one: u64, other: u64) -> u64 {

@@ -2,7 +2,9 @@
 #![allow(dead_code)]
 
 use simjaldek::lent::{work_len, BankArrays, IndexArrays, Pairs, WrittenAtoms, WrittenPairs};
-use simjaldek::{Bank, FormulaBuf, Gate, Points, Row, ATOMS_MAX, ATOM_TOKENS};
+use simjaldek::{
+    splitmix64, Bank, FormulaBuf, Gate, Points, Row, Window, ATOMS_MAX, ATOM_TOKENS, WINDOW_MAX,
+};
 
 /// A row of these words over and over.
 pub fn repeated(words: &[u64]) -> Row {
@@ -18,6 +20,31 @@ pub fn one_variable(width: u32, words: &[u64]) -> Points {
 /// P2's bank.
 pub fn p2() -> Bank {
     Bank::build(&one_variable(2, &[0, 1, 2, 3]), &[0; 16]).expect("P2 is not refused")
+}
+
+/// Words one after the other.
+pub struct Words(pub u64);
+
+impl Words {
+    pub fn word(&mut self) -> u64 {
+        let (state, word) = splitmix64(self.0);
+        self.0 = state;
+        word
+    }
+
+    pub fn below(&mut self, bound: u64) -> u64 {
+        self.word() % bound
+    }
+
+    /// Any window.
+    pub fn window(&mut self) -> Window {
+        let records = 1 + self.below(WINDOW_MAX.into()) as u32;
+        window(1 + self.below(records.into()) as u32, records)
+    }
+}
+
+pub fn window(least: u32, records: u32) -> Window {
+    Window { least, records }
 }
 
 /// What fills buffers before a call.

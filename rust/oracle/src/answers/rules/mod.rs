@@ -43,7 +43,7 @@ const HEAD: [&str; 21] = [
 ];
 
 /// Whose answers they are.
-const ANSWERS: &str =
+pub const ANSWERS: &str =
     "Answers of the specification, over the values of the original Rust (binsnake/cobra, Apache-2.0)";
 
 /// The whole file.

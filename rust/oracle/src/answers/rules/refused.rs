@@ -5,7 +5,7 @@ use super::answered::exact;
 use super::line;
 use crate::access::Formula;
 use crate::answers::data_file::DataFile;
-use crate::answers::faults::{faulty, Fault, BAD_WIDTHS, HUGE};
+use crate::answers::faults::{faulty, Fault, BAD_VARS, BAD_WIDTHS, HUGE};
 use crate::made::formulas::{left_chain, right_chain, unary_chain};
 use crate::spec::formulas::{ADD, AND, CONSTANT, NOT, VARIABLE, VARS_MAX, XOR};
 use crate::spec::lent::RunRule;
@@ -15,7 +15,6 @@ use crate::spec::refusals::{
 use crate::spec::rule::Rule;
 
 const STATE: u64 = 0x0123_4567_89AB_CDEF;
-const BAD_VARS: [u64; 5] = [0, 7, 8, 256 + 2, u32::MAX as u64];
 const V0: (u8, u64) = (VARIABLE, 0);
 const V1: (u8, u64) = (VARIABLE, 1);
 

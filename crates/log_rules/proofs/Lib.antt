@@ -1,0 +1,5 @@
+-- Laws of this crate's definitions.
+pub mod Tests
+pub mod Singles
+pub mod Asking
+pub mod Feeding

@@ -1,0 +1,284 @@
+-- Laws of "somewhere below n", of refusals over several rules and of the least rank. Assumes nothing.
+use mathlib.Core.Path.{_≡_, refl, sym, ap, _∙_, subst}
+use mathlib.Core.Logic.{_⊎_, inl, inr}
+use mathlib.Core.Bool.{Bool, true, false, cond, _||_}
+use mathlib.Core.List.{List}
+use Prim.Native.Nat.{ℕ, zero, suc, _+_, _*_, _/_, _≤_, _<_}
+use native.Mathlib.Numerals.{add-one}
+use native.Mathlib.Omega.{arith}
+use borrow.Author.Tests.{ltb-false, le-ltb, lt-ltb, eq-eqb, ne-eqb}
+use lib.Dec.{ltb, eqb}
+use lib.ListN.{length, getD}
+use Rattle.arrays.proofs.Lists.{bool-cases}
+use Rattle.limits.specs.Refusal.{refuse, outsideOf, badCount, badWidth}
+use Rattle.limits.proofs.Refusals.{true-not-false, or-here, or-later, neither, passed, within, le-or-lt, refused-here, refused-later, parts-few}
+use Rattle.log_rules.specs.Rules.{Rule, Rules, rankOf, ruleAt, anyBelow, badFormula, badRange, sameRank, badRanks, shortRules, logRefusal}
+use Rattle.log_rules.specs.Firing.{noRank, lesser, leastRank}
+use Rattle.log_rules.specs.Steps.{formulasRefusal, rulesRefusal, lentRefusal, ruleRefusal, leastNumber, Lends, Ranked}
+
+pub or-right : (a : Bool) {b : Bool} → b ≡ true → (a || b) ≡ true
+or-right true e = refl
+or-right false e = e
+
+same : (i n : ℕ) → n ≤ i → i < suc n → n ≡ i
+same i n h l = omega arith
+
+-- ---- somewhere below n
+module _ (f : ℕ → Bool) where
+  pub any-at : (n i : ℕ) → i < n → f i ≡ true → anyBelow n f ≡ true
+  unfolding anyBelow
+  any-at zero i l e = absurd (omega arith)
+  any-at (suc n) i l e = elim (le-or-lt n i) [ inl h ↦ or-right (anyBelow n f) (ap f (same i n h l) ∙ e) | inr h ↦ or-here (f n) (any-at n i h e) ]
+
+  pub any-none : (n : ℕ) → ((i : ℕ) → i < n → f i ≡ false) → anyBelow n f ≡ false
+  unfolding anyBelow
+  any-none zero h = refl
+  any-none (suc n) h = or-later (any-none n (λ i l. h i (omega arith))) (h n (omega arith))
+
+  pub none-below : (n : ℕ) → anyBelow n f ≡ false → (i : ℕ) → i < n → f i ≡ false
+  none-below n e i l = elim (bool-cases (f i)) [ inl y ↦ absurd (true-not-false (sym (any-at n i l y) ∙ e)) | inr o ↦ o ]
+
+-- one place more where f doesn't hold
+pub below-more : (f : ℕ → Bool) (n : ℕ) → ((i : ℕ) → i < n → f i ≡ false) → f n ≡ false → (i : ℕ) → i < n + 1 → f i ≡ false
+below-more f n h e i l = elim (le-or-lt n i) [ inl g ↦ ap f (sym (same i n g (omega arith))) ∙ e | inr g ↦ h i g ]
+
+pub any-same : (n : ℕ) (f g : ℕ → Bool) → ((i : ℕ) → i < n → f i ≡ g i) → anyBelow n f ≡ anyBelow n g
+unfolding anyBelow
+any-same zero f g h = refl
+any-same (suc n) f g h = λ j. any-same n f g (λ i l. h i (omega arith)) j || h n (omega arith) j
+
+-- ---- ranks
+module _ (count : ℕ) (ranks : List ℕ) where
+  abbrev bad : ℕ → Bool
+  bad i = outsideOf 1 8 (getD ranks i 0) || sameRank ranks i
+
+  pub ranks-outside : outsideOf 1 8 count ≡ true → true ≡ badRanks count ranks
+  unfolding badRanks
+  ranks-outside e = sym (or-here _ e)
+
+  pub ranks-at : (i : ℕ) → i < count → bad i ≡ true → true ≡ badRanks count ranks
+  unfolding badRanks
+  ranks-at i l e = sym (or-right (outsideOf 1 8 count) (any-at bad count i l e))
+
+  pub ranks-good : outsideOf 1 8 count ≡ false → ((i : ℕ) → i < count → bad i ≡ false) → false ≡ badRanks count ranks
+  unfolding badRanks
+  ranks-good e h = sym (or-later e (any-none bad count h))
+
+pub ranked : (rules : Rules) → badRanks (rules .count) (rules .ranks) ≡ false → Ranked rules
+unfolding badRanks
+ranked rules e =
+    let p = neither (outsideOf 1 8 (rules .count)) _ e in
+    let each : (i : ℕ) → i < rules .count → outsideOf 1 8 (rankOf rules i) ≡ false = λ i l. neither (outsideOf 1 8 (rankOf rules i)) (sameRank (rules .ranks) i) (none-below (bad (rules .count) (rules .ranks)) (rules .count) (p .1) i l) .0 in
+    record {
+      few = within 1 8 (rules .count) (p .0) .most;
+      least = λ i l. within 1 8 (rankOf rules i) (each i l) .least;
+      most = λ i l. within 1 8 (rankOf rules i) (each i l) .most;
+    }
+
+-- ---- the numbers of several rules
+least-of : (a b c d : Bool) → refuse (a || c) 6 (refuse (b || d) 10 0) ≡ leastNumber (refuse a 6 (refuse b 10 0)) (refuse c 6 (refuse d 10 0))
+least-of true b true d = refl
+least-of true b false true = refl
+least-of true b false false = refl
+least-of false true true d = refl
+least-of false true false true = refl
+least-of false true false false = refl
+least-of false false true d = refl
+least-of false false false true = refl
+least-of false false false false = refl
+
+module _ (a b : ℕ) where
+  pub number-none : b ≡ 0 → a ≡ leastNumber a b
+  number-none e = sym (ap (λ (t : Bool). cond t a (cond (eqb a 0) b (lesser a b))) (eq-eqb b 0 e))
+
+  module _ (nb : b ≡ 0 → ⊥) where
+    pub number-first : a ≡ 0 → b ≡ leastNumber a b
+    number-first e = sym (ap (λ (t : Bool). cond t a (cond (eqb a 0) b (lesser a b))) (ne-eqb b 0 nb) ∙ ap (λ (t : Bool). cond t b (lesser a b)) (eq-eqb a 0 e))
+
+    module _ (na : a ≡ 0 → ⊥) where
+      pub number-lesser : (x : ℕ) → x ≡ lesser a b → x ≡ leastNumber a b
+      number-lesser x e = e ∙ sym (ap (λ (t : Bool). cond t a (cond (eqb a 0) b (lesser a b))) (ne-eqb b 0 nb) ∙ ap (λ (t : Bool). cond t b (lesser a b)) (ne-eqb a 0 na))
+
+  pub lesser-right : b < a → b ≡ lesser a b
+  lesser-right h = sym (ap (λ (t : Bool). cond t b a) (lt-ltb b a h))
+
+  pub lesser-left : a ≤ b → a ≡ lesser a b
+  lesser-left h = sym (ap (λ (t : Bool). cond t b a) (le-ltb b a h))
+
+-- an answer that fires offers its rank, another doesn't
+module _ (least answer rank : ℕ) where
+  pub offered-not : (answer ≡ 1 → ⊥) → least ≡ cond (eqb answer 1) (lesser least rank) least
+  offered-not n = sym (ap (λ (t : Bool). cond t (lesser least rank) least) (ne-eqb answer 1 n))
+
+  pub offered-one : answer ≡ 1 → (x : ℕ) → x ≡ lesser least rank → x ≡ cond (eqb answer 1) (lesser least rank) least
+  offered-one e x h = h ∙ sym (ap (λ (t : Bool). cond t (lesser least rank) least) (eq-eqb answer 1 e))
+
+module _ (nv : ℕ) (rules : Rules) where
+  abbrev formula : ℕ → Bool
+  formula i = badFormula nv (ruleAt rules i)
+
+  abbrev range : ℕ → Bool
+  range i = badRange (ruleAt rules i)
+
+  pub numbers-none : 0 ≡ formulasRefusal nv rules 0
+  unfolding formulasRefusal
+  numbers-none = refl
+
+  pub numbers-more : (n x a b : ℕ) → a ≡ formulasRefusal nv rules n → b ≡ ruleRefusal nv (ruleAt rules n) → x ≡ leastNumber a b → x ≡ formulasRefusal nv rules (n + 1)
+  unfolding formulasRefusal ruleRefusal
+  numbers-more n x a b ea eb ex =
+      ex
+      ∙ (λ i. leastNumber (ea i) (eb i))
+      ∙ sym (least-of (anyBelow n formula) (anyBelow n range) (formula n) (range n))
+      ∙ sym (ap (formulasRefusal nv rules) (add-one n))
+
+  -- where the first n + 1 pass, so do the first n and the last of them
+  pub numbers-zero : (n : ℕ) → formulasRefusal nv rules (n + 1) ≡ 0 → (formulasRefusal nv rules n ≡ 0) × (ruleRefusal nv (ruleAt rules n) ≡ 0)
+  unfolding formulasRefusal ruleRefusal
+  numbers-zero n e =
+      let p = passed (anyBelow (suc n) formula) 6 (refuse (anyBelow (suc n) range) 10 0) (omega arith) (ap (formulasRefusal nv rules) (sym (add-one n)) ∙ e) in
+      let q = passed (anyBelow (suc n) range) 10 0 (omega arith) (p .1) in
+      let f = neither (anyBelow n formula) (formula n) (p .0) in
+      let g = neither (anyBelow n range) (range n) (q .0) in
+      (refused-later 6 (f .0) (refused-later 10 (g .0) refl), refused-later 6 (f .1) (refused-later 10 (g .1) refl))
+
+  -- of each of the first n
+  pub number-each : (n : ℕ) → formulasRefusal nv rules n ≡ 0 → (i : ℕ) → i < n → ruleRefusal nv (ruleAt rules i) ≡ 0
+  unfolding formulasRefusal ruleRefusal
+  number-each n e i l =
+      let p = passed (anyBelow n formula) 6 (refuse (anyBelow n range) 10 0) (omega arith) e in
+      let q = passed (anyBelow n range) 10 0 (omega arith) (p .1) in
+      refused-later 6 (none-below formula n (p .0) i l) (refused-later 10 (none-below range n (q .0) i l) refl)
+
+  -- 11 after them
+  pub numbers-ranks : (x a : ℕ) → a ≡ formulasRefusal nv rules (rules .count) → x ≡ cond (eqb a 0) (refuse (badRanks (rules .count) (rules .ranks)) 11 0) a → x ≡ rulesRefusal nv rules
+  unfolding formulasRefusal rulesRefusal
+  numbers-ranks x a ea ex = ex ∙ ap (λ (k : ℕ). cond (eqb k 0) (refuse (badRanks (rules .count) (rules .ranks)) 11 0) k) ea ∙ after (anyBelow (rules .count) formula) (anyBelow (rules .count) range)
+    where
+      after : (f g : Bool) → cond (eqb (refuse f 6 (refuse g 10 0)) 0) (refuse (badRanks (rules .count) (rules .ranks)) 11 0) (refuse f 6 (refuse g 10 0))
+          ≡ refuse f 6 (refuse g 10 (refuse (badRanks (rules .count) (rules .ranks)) 11 0))
+      after true g = refl
+      after false true = refl
+      after false false = refl
+
+-- ---- what is lent
+-- array after array
+module _ (rules : Rules) where
+  pub short-ranks : length (rules .ranks) < rules .count → true ≡ shortRules rules
+  unfolding shortRules
+  short-ranks h = sym (or-here _ (lt-ltb _ _ h))
+
+  module _ (ranks : rules .count ≤ length (rules .ranks)) where
+    pub short-ms : length (rules .ms) < rules .count → true ≡ shortRules rules
+    unfolding shortRules
+    short-ms h = sym (or-later (le-ltb _ _ ranks) (or-here _ (lt-ltb _ _ h)))
+
+    module _ (ms : rules .count ≤ length (rules .ms)) where
+      pub short-windows : length (rules .windows) < rules .count → true ≡ shortRules rules
+      unfolding shortRules
+      short-windows h = sym (or-later (le-ltb _ _ ranks) (or-later (le-ltb _ _ ms) (or-here _ (lt-ltb _ _ h))))
+
+      module _ (windows : rules .count ≤ length (rules .windows)) where
+        pub short-counts : length (rules .tokenCounts) < rules .count → true ≡ shortRules rules
+        unfolding shortRules
+        short-counts h = sym (or-later (le-ltb _ _ ranks) (or-later (le-ltb _ _ ms) (or-later (le-ltb _ _ windows) (or-here _ (lt-ltb _ _ h)))))
+
+        module _ (counts : rules .count ≤ length (rules .tokenCounts)) where
+          pub short-ops : length (rules .ops) / 64 < rules .count → true ≡ shortRules rules
+          unfolding shortRules
+          short-ops h =
+              sym
+              (or-later (le-ltb _ _ ranks)
+              (or-later (le-ltb _ _ ms)
+              (or-later (le-ltb _ _ windows)
+              (or-later (le-ltb _ _ counts) (or-here _ (sym (parts-few (length (rules .ops)) 64 (rules .count) (omega arith)) ∙ lt-ltb _ _ h))))))
+
+          pub short-operands : rules .count ≤ length (rules .ops) / 64 → ltb (length (rules .operands) / 64) (rules .count) ≡ shortRules rules
+          unfolding shortRules
+          short-operands h =
+              sym
+              (or-later (le-ltb _ _ ranks)
+              (or-later (le-ltb _ _ ms)
+              (or-later (le-ltb _ _ windows)
+              (or-later (le-ltb _ _ counts)
+              (or-later (sym (parts-few (length (rules .ops)) 64 (rules .count) (omega arith)) ∙ le-ltb _ _ h) (sym (parts-few (length (rules .operands)) 64 (rules .count) (omega arith))))))))
+
+module _ (nv w : ℕ) (rules : Rules) (n : ℕ) (records : List ℕ) where
+  -- the rules' numbers come after those of what is lent
+  pub refusal-lent : 0 < lentRefusal nv w rules n records → logRefusal nv w rules n records ≡ lentRefusal nv w rules n records
+  unfolding lentRefusal logRefusal
+  refusal-lent h = first (badCount nv) (badWidth w) (shortRules rules || ltb (length records) (nv * n)) h
+    where
+      rest : ℕ
+      rest =
+          refuse (anyBelow (rules .count) (λ (i : ℕ). badFormula nv (ruleAt rules i))) 6
+          (refuse (anyBelow (rules .count) (λ (i : ℕ). badRange (ruleAt rules i))) 10
+          (refuse (badRanks (rules .count) (rules .ranks)) 11 0))
+
+      first : (a b c : Bool) → 0 < refuse a 1 (refuse b 2 (refuse c 4 0)) → refuse a 1 (refuse b 2 (refuse c 4 rest)) ≡ refuse a 1 (refuse b 2 (refuse c 4 0))
+      first true b c p = refl
+      first false true c p = refl
+      first false false true p = refl
+      first false false false p = absurd (omega arith)
+
+  pub refusal-rules : lentRefusal nv w rules n records ≡ 0 → logRefusal nv w rules n records ≡ rulesRefusal nv rules
+  unfolding lentRefusal logRefusal rulesRefusal
+  refusal-rules e =
+      let p = passed (badCount nv) 1 _ (omega arith) e in
+      let q = passed (badWidth w) 2 _ (omega arith) (p .1) in
+      let r = passed (shortRules rules || ltb (length records) (nv * n)) 4 0 (omega arith) (q .1) in
+      refused-later 1 (p .0) (refused-later 2 (q .0) (refused-later 4 (r .0) refl))
+
+  -- test after test
+  pub lent-1 : badCount nv ≡ true → 1 ≡ lentRefusal nv w rules n records
+  unfolding lentRefusal
+  lent-1 a = sym (refused-here 1 _ a)
+
+  module _ (a : badCount nv ≡ false) where
+    pub lent-2 : badWidth w ≡ true → 2 ≡ lentRefusal nv w rules n records
+    unfolding lentRefusal
+    lent-2 b = sym (refused-later 1 a (refused-here 2 _ b))
+
+    module _ (b : badWidth w ≡ false) where
+      pub lent-4 : (shortRules rules || ltb (length records) (nv * n)) ≡ true → 4 ≡ lentRefusal nv w rules n records
+      unfolding lentRefusal
+      lent-4 c = sym (refused-later 1 a (refused-later 2 b (refused-here 4 0 c)))
+
+      pub lent-none : (shortRules rules || ltb (length records) (nv * n)) ≡ false → 0 ≡ lentRefusal nv w rules n records
+      unfolding lentRefusal
+      lent-none c = sym (refused-later 1 a (refused-later 2 b (refused-later 4 c refl)))
+
+  pub lends : lentRefusal nv w rules n records ≡ 0 → Lends nv w rules n records
+  unfolding lentRefusal shortRules
+  lends e =
+      let p = passed (badCount nv) 1 _ (omega arith) e in
+      let q = passed (badWidth w) 2 _ (omega arith) (p .1) in
+      let r = passed (shortRules rules || ltb (length records) (nv * n)) 4 0 (omega arith) (q .1) in
+      let s = neither (shortRules rules) _ (r .0) in
+      let a = neither (ltb (length (rules .ranks)) (rules .count)) _ (s .0) in
+      let b = neither (ltb (length (rules .ms)) (rules .count)) _ (a .1) in
+      let c = neither (ltb (length (rules .windows)) (rules .count)) _ (b .1) in
+      let d = neither (ltb (length (rules .tokenCounts)) (rules .count)) _ (c .1) in
+      let f = neither (ltb (length (rules .ops)) (64 * rules .count)) _ (d .1) in
+      record {
+        some = within 1 6 nv (p .0) .least;
+        few = within 1 6 nv (p .0) .most;
+        wide = within 1 64 w (q .0) .least;
+        narrow = within 1 64 w (q .0) .most;
+        ranks = ltb-false _ _ (a .0);
+        ms = ltb-false _ _ (b .0);
+        windows = ltb-false _ _ (c .0);
+        counts = ltb-false _ _ (d .0);
+        ops = ltb-false _ _ (f .0);
+        operands = ltb-false _ _ (f .1);
+        fits = ltb-false _ _ (s .1);
+      }
+
+-- ---- the least rank
+module _ (rules : Rules) where
+  pub rank-same : (n : ℕ) (f g : ℕ → Bool) → ((i : ℕ) → i < n → f i ≡ g i) → leastRank rules n f ≡ leastRank rules n g
+  unfolding leastRank
+  rank-same zero f g h = refl
+  rank-same (suc n) f g h =
+      let e = rank-same n f g (λ i l. h i (omega arith)) in
+      λ j. cond (h n (omega arith) j) (lesser (e j) (rankOf rules n)) (e j)

@@ -1,0 +1,23 @@
+-- What the contracts of src/inner.rt cite, beside specs/Step. Assumes nothing.
+use mathlib.Core.List.{List}
+use Prim.Native.Nat.{ℕ, zero, suc}
+use lib.ListN.{getD}
+use Rattle.limits.specs.Refusal.{unlessRefused}
+use Rattle.log_rules.specs.Rules.{Rules}
+use Rattle.log_rules.specs.Steps.{formulasRefusal}
+use Rattle.log_run.specs.declared.Shown.{Shown}
+use Rattle.log_run.specs.declared.Log.{Log}
+use Rattle.log_run.specs.declared.LogAnswer.{LogAnswer}
+use Rattle.log_run.specs.Step.{noted, logAfter}
+
+-- what a run of n records answers where only the rules themselves are still to be tested
+abbrev pub ruled : ℕ → ℕ → Rules → Log → ℕ → List ℕ → LogAnswer
+ruled nv w rules l n records = record {
+  refusal = formulasRefusal nv rules (rules .count);
+  log = unlessRefused (formulasRefusal nv rules (rules .count)) (logAfter nv w rules records l n) l;
+}
+
+-- what is shown after n records, of each of which a list has the least rank that fires
+unfoldable pub notedOver : List ℕ → Shown → ℕ → Shown
+notedOver ranks s zero = s
+notedOver ranks s (suc n) = noted (getD ranks n 0) (notedOver ranks s n)

@@ -1,0 +1,115 @@
+// The closing log of a station: each sounding is closed once, by the rule that wins (document 02, 2.7).
+pub mod inner;
+
+ghost use mathlib.Core.Path.{_≡_};
+ghost use Rattle.log_rules.specs.Rules.{rulesIn};
+ghost use Rattle.log_run.specs.Step.{logged, opened};
+
+// What the log shows of its sounding: the number of the last record, the number of the record that closed it (0 for none) with the rank
+// that won, and how many later records had a firing.
+pub struct Shown {
+    pub number: u64,
+    pub close: u64,
+    pub rank: u32,
+    pub later: u64,
+}
+
+// Whether a sounding was opened, what is shown of it, and what the window of the rule at each place has seen. Every value is a log; the
+// empty one is false and zeros.
+pub struct Log {
+    pub begun: bool,
+    pub shown: Shown,
+    pub windows: [u64; 8],
+}
+
+// The log after a call's records; as it was beside a refusal.
+pub struct LogAnswer {
+    pub refusal: u32,
+    pub log: Log,
+}
+
+// Starts a sounding and its windows afresh; the earlier one gets no close from then on.
+pub fn open_log(log: Log) -> Log
+    ensures { λ r. ⌜ r ≡ opened log ⌝ }
+{
+    Log {
+        begun: true,
+        shown: Shown {
+            number: 0,
+            close: 0,
+            rank: 0,
+            later: 0,
+        },
+        windows: [0; 8],
+    }
+}
+
+// Takes n records in turn: on the first where some rule fires the sounding is closed with that record's number and the least rank that
+// fires; later records with a firing are only counted; without a sounding nothing changes. Of rule i are the values at place i and the
+// opcodes and operands from place 64 i on. Refuses 1, 2, 4, 6, 10, 11, over every claimed rule.
+pub fn run_log(
+    log: Log,
+    rule_count: usize,
+    ranks: &[u32],
+    ms: &[u32],
+    windows: &[u32],
+    token_counts: &[u32],
+    ops: &[u8],
+    operands: &[u64],
+    nv: u32,
+    w: u32,
+    n: usize,
+    records: &[u64],
+) -> LogAnswer
+    ensures { λ r. ⌜ r ≡ logged nv w (rulesIn «rule_count» (now (ranks .entry)) (now (ms .entry)) (now (windows .entry)) (now («token_counts» .entry)) (now (ops .entry)) (now (operands .entry))) log n (now (records .entry)) ⌝ }
+{
+    let refusal = log_rules::inner::lent_refusal(
+        rule_count,
+        ranks,
+        ms,
+        windows,
+        token_counts,
+        ops,
+        operands,
+        nv,
+        w,
+        n,
+        records,
+    );
+    if refusal != 0 {
+        return LogAnswer { refusal, log };
+    }
+    if inner::feeds(log.begun, rule_count, ranks, n) {
+        return inner::run(
+            log,
+            rule_count,
+            ranks,
+            ms,
+            windows,
+            token_counts,
+            ops,
+            operands,
+            nv,
+            w,
+            n,
+            records,
+        );
+    }
+    let number = log_rules::inner::rules_refusal(
+        rule_count,
+        ranks,
+        ms,
+        windows,
+        token_counts,
+        ops,
+        operands,
+        nv,
+        w,
+        n,
+        records,
+    );
+    LogAnswer {
+        refusal: number,
+        log,
+    }
+}
