@@ -46,22 +46,26 @@ value-some nv w words ts h =
     let e = ap (whole (valueAlg w words)) (sym (f .text)) ∙ whole-tree (valueAlg w words) (f .tree) in
     e ∙ sym (ap (λ (x : Option ℕ). some (orElse 0 x)) e)
 
+-- a formula that passes has at most 64 tokens
+pub formula-short : (nv count : ℕ) (ops operands : List ℕ) → isFormula nv (tokens count ops operands) ≡ true → count ≤ 64
+formula-short nv count ops operands h = subst (λ (n : ℕ). n ≤ 64) (tokens-length ops operands count) (passed nv (tokens count ops operands) h .most)
+
 -- reading the rest from place i over the first sp places of the array gives the value
 pub record Stage (w : ℕ) (words : List ℕ) (count : ℕ) (ops operands arr : List ℕ) (sp i : ℕ) : Type 0 where
-  pub long : length arr ≡ 64
+  pub long : count ≤ length arr
   pub most : count ≤ 64
   pub room : sp ≤ i
   pub at : i ≤ count
   pub all : allKnown (length words) (drop i (tokens count ops operands)) ≡ true
   pub rest : only (run (valueAlg w words) (drop i (tokens count ops operands)) (stackOf arr sp)) ≡ some (valueOf w words (tokens count ops operands))
 
-pub stage-start : (w : ℕ) (words : List ℕ) (count : ℕ) (ops operands arr : List ℕ) → length arr ≡ 64 → isFormula (length words) (tokens count ops operands) ≡ true → Stage w words count ops operands arr 0 0
+pub stage-start : (w : ℕ) (words : List ℕ) (count : ℕ) (ops operands arr : List ℕ) → count ≤ length arr → isFormula (length words) (tokens count ops operands) ≡ true → Stage w words count ops operands arr 0 0
 unfolding stackOf whole
 stage-start w words count ops operands arr h k =
     let p = passed (length words) (tokens count ops operands) k in
     record {
       long = h;
-      most = subst (λ (n : ℕ). n ≤ 64) (tokens-length ops operands count) (p .most);
+      most = formula-short (length words) count ops operands k;
       room = omega arith;
       at = omega arith;
       all = p .all;
@@ -79,11 +83,23 @@ module _ (w : ℕ) (words : List ℕ) (count : ℕ) (ops operands arr : List ℕ
   end-one (suc zero) e = cc
   end-one (suc (suc n)) e = absurd (none≢some e)
 
-  pub stage-end : count ≤ i → getD arr 0 0 ≡ valueOf w words (tokens count ops operands)
+  end-low : (n : ℕ) → only {A = ℕ} (some (stackOf arr n)) ≡ some (valueOf w words ts) → 1 ≤ n
+  unfolding only stackOf
+  end-low zero e = absurd (none≢some e)
+  end-low (suc n) e = omega arith
+
+  end-here : count ≤ i → only {A = ℕ} (some (stackOf arr sp)) ≡ some (valueOf w words ts)
   unfolding run ts
-  stage-end h =
+  end-here h =
       let le : length (tokens count ops operands) ≤ i = omega (arith, tokens-length ops operands count) in
-      end-one sp (ap (λ (l : List Token). only (run (valueAlg w words) l (stackOf arr sp))) (sym (drop-of-length-le (tokens count ops operands) le)) ∙ s .rest)
+      ap (λ (l : List Token). only (run (valueAlg w words) l (stackOf arr sp))) (sym (drop-of-length-le (tokens count ops operands) le)) ∙ s .rest
+
+  pub stage-left : count ≤ i → 1 ≤ length arr
+  stage-left h = omega (arith, end-low sp (end-here h), s .long, s .room, s .at)
+
+  pub stage-end : count ≤ i → getD arr 0 0 ≡ valueOf w words (tokens count ops operands)
+  unfolding ts
+  stage-end h = end-one sp (end-here h)
 
   module _ (more : i < count) (t : Token) (here : tokenAt ops operands i ≡ t) where
     all-here : (known (length words) t && allKnown (length words) (drop (i + 1) ts)) ≡ true
@@ -99,7 +115,7 @@ module _ (w : ℕ) (words : List ℕ) (count : ℕ) (ops operands arr : List ℕ
         → only (run (valueAlg w words) (drop (i + 1) ts) (x ∷ stackOf arr base)) ≡ some (valueOf w words ts) → Stage w words count ops operands (set arr base x) n (i + 1)
     unfolding ts
     next base x n e b l r = record {
-      long = length-set arr base x ∙ s .long;
+      long = omega (arith, length-set arr base x, s .long);
       most = s .most;
       room = (let a = s .room in omega arith);
       at = omega arith;

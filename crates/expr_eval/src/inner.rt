@@ -2,15 +2,26 @@
 use expr::MAX_TOKENS;
 use expr::Token;
 ghost use mathlib.Core.Path.{_≡_};
+ghost use Prim.Native.Nat.{_≤_};
+ghost use lib.ListN.{length};
 ghost use Rattle.expr.specs.Formula.{tokens};
 ghost use Rattle.expr_eval.specs.Value.{valueOf, Evaluable};
 
-// The value of a formula that has passed the test, from left to right over a stack.
-pub fn eval_tokens(w: u32, count: usize, ops: &[u8], operands: &[u64], words: &[u64]) -> u64
-    requires { ⌜ Evaluable w count (now ops) (now operands) (now words) ⌝ }
+// A formula of at most so many tokens goes over a stack of so many words: every stack is cleared first, and the longest formula's takes longer.
+const FEW_TOKENS: usize = 16;
+
+// The value of a formula that has passed the test, from left to right over a stack. What the stack holds before and after doesn't matter.
+pub fn eval_over(
+    stack: &mut [u64],
+    w: u32,
+    count: usize,
+    ops: &[u8],
+    operands: &[u64],
+    words: &[u64],
+) -> u64
+    requires { ⌜ Evaluable w count (now ops) (now operands) (now words) × (count ≤ length (now stack)) ⌝ }
     ensures { λ r. ⌜ r ≡ valueOf w (now (words .entry)) (tokens count (now (ops .entry)) (now (operands .entry))) ⌝ }
 {
-    let mut stack = [0u64; MAX_TOKENS];
     let mut sp: usize = 0;
     let mut i: usize = 0;
     while i < count {
@@ -38,4 +49,17 @@ pub fn eval_tokens(w: u32, count: usize, ops: &[u8], operands: &[u64], words: &[
         }
     }
     stack[0]
+}
+
+// The same over a stack of its own, a short one for a short formula.
+pub fn eval_tokens(w: u32, count: usize, ops: &[u8], operands: &[u64], words: &[u64]) -> u64
+    requires { ⌜ Evaluable w count (now ops) (now operands) (now words) ⌝ }
+    ensures { λ r. ⌜ r ≡ valueOf w (now (words .entry)) (tokens count (now (ops .entry)) (now (operands .entry))) ⌝ }
+{
+    if count <= FEW_TOKENS {
+        let mut few = [0u64; FEW_TOKENS];
+        return eval_over(&mut few, w, count, ops, operands, words);
+    }
+    let mut stack = [0u64; MAX_TOKENS];
+    eval_over(&mut stack, w, count, ops, operands, words)
 }

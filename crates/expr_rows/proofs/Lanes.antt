@@ -20,7 +20,7 @@ use Rattle.expr.specs.declared.Token.{Token}
 use Rattle.expr.specs.declared.Token.the-variants.{Constant, Variable, Binary, Not, Neg, Bad}
 use Rattle.expr.specs.Formula.{arity, known, tokenAt, tokens, isFormula}
 use Rattle.expr_eval.specs.Value.{valueAlg, valueOf}
-use Rattle.expr_eval.proofs.Stack.{Stage, stage-start, stage-end, stage-constant, stage-variable, stage-not, stage-neg, stage-gate, stage-unary, stage-binary, stage-bad, stage-word}
+use Rattle.expr_eval.proofs.Stack.{formula-short, Stage, stage-start, stage-end, stage-constant, stage-variable, stage-not, stage-neg, stage-gate, stage-unary, stage-binary, stage-bad, stage-word}
 use Rattle.expr_rows.specs.Rows.{leaves, RowsReady}
 
 -- ---- one lane
@@ -135,7 +135,7 @@ module _ (w nv count : ℕ) (ops operands records : List ℕ) where
   rows-start stack r = record {
     room = r .room;
     lanes = λ j h.
-        stage-start w (partAt nv records j) count ops operands (laneOf j stack) (lane-long j stack)
+        stage-start w (partAt nv records j) count ops operands (laneOf j stack) (omega (arith, lane-long j stack, formula-short nv count ops operands (r .formula)))
         (ap (λ (n : ℕ). isFormula n (tokens count ops operands)) (record-long nv records (r .long) j h) ∙ r .formula);
   }
 

@@ -1,303 +1,39 @@
--- `expr_eval::inner::eval_tokens` meets its contract: reading the rest over what the array holds gives the value. Assumes nothing.
-use mathlib.Core.Path.{sym, ap, _∙_}
-use mathlib.Core.Logic.{inl, inr}
-use Prim.Native.Nat.{ℕ, _-_, _%_, _≤_, _<_}
+-- `expr_eval::inner::eval_tokens` meets its contract: the stack that it lends has room for every token. Assumes nothing.
 use borrow.Author.Needs.{needs}
-use lib.ListN.{length, getD}
-use Rattle.arith.specs.Word.{notOf, negOf}
-use Rattle.arith.proofs.Remainders.{modulus-is}
-use Rattle.expr_eval.proofs.Stack.{Stage, stage-start, stage-end, stage-constant, stage-variable, stage-not, stage-neg, stage-gate, stage-unary, stage-binary, stage-bad, stage-word}
+use lib.ListN.{length}
+use Rattle.expr_eval.proofs.Stack.{formula-short}
 use Rattle.expr_eval.proofs.inner.eval_tokens.Statement.{statement}
 use Rattle.expr_eval.proofs.inner.eval_tokens.Tie as tie
 
-abbrev Inv-loop : tie.InvT-loop
-Inv-loop w count ops operands words stack₀ sp₀ i₀ stack sp i = Stage w words count ops operands stack sp i
+slice-aggregate-eval-over : tie.Need-slice-aggregate-eval-over
+slice-aggregate-eval-over c = search needs
 
-abbrev μ-loop : tie.MeasureT-loop
-μ-loop w count ops operands words stack₀ sp₀ i₀ stack sp i = count - i
+eval-over-requires : tie.Need-eval-over-requires
+eval-over-requires c κs = search needs
 
--- a variable has a word, a gate two operands, Not and Neg one
-word : (c : tie.After-known-told2 Inv-loop μ-loop) → c .before .t2 .given .0 .0 < length (c .before .before .before .before .before .before .before .before .before .args .words .now)
-word c =
-    let s = c .before .before .before .before .before .before .before .before .before .args in
-    let l = c .before .before .before .before .before .loop in
-    stage-word (s .w) (s .words .now) (s .count) (s .ops .now) (s .operands .now) (l .stack) (l .sp) (l .i) (l .inv) (search needs) (c .before .before .before .token-at .result) (sym (c .before .before .before .token-at .ensures)) _ (c .before .t2 .given .1)
+returns : tie.Need-returns
+returns c = search needs
 
-two : (c : tie.After-known-told3 Inv-loop μ-loop) → 2 ≤ c .before .before .before .before .before .loop .sp
-two c =
-    let s = c .before .before .before .before .before .before .before .before .before .args in
-    let l = c .before .before .before .before .before .loop in
-    stage-binary (s .w) (s .words .now) (s .count) (s .ops .now) (s .operands .now) (l .stack) (l .sp) (l .i) (l .inv) (search needs) (c .before .before .before .token-at .result) (sym (c .before .before .before .token-at .ensures)) _ (c .before .t3 .given .1)
+slice-aggregate-eval-over-2 : tie.Need-slice-aggregate-eval-over-2
+slice-aggregate-eval-over-2 c = search needs
 
-one-not : (c : tie.After-enum-told Inv-loop μ-loop) → 1 ≤ c .before .before .before .before .loop .sp
-one-not c =
-    let s = c .before .before .before .before .before .before .before .before .args in
-    let l = c .before .before .before .before .loop in
-    stage-unary (s .w) (s .words .now) (s .count) (s .ops .now) (s .operands .now) (l .stack) (l .sp) (l .i) (l .inv) (search needs) (c .before .before .token-at .result) (sym (c .before .before .token-at .ensures)) (inl (c .enum-told .given .1))
+eval-over-requires-2 : tie.Need-eval-over-requires-2
+eval-over-requires-2 c κs =
+    let s = c .before .before .before .before .before in
+    let a = s .args in
+    let short = formula-short (length (a .words .now)) (a .count) (a .ops .now) (a .operands .now) (s .pre .formula) in
+    search needs
 
-one-neg : (c : tie.After-enum-told2 Inv-loop μ-loop) → 1 ≤ c .before .before .before .before .loop .sp
-one-neg c =
-    let s = c .before .before .before .before .before .before .before .before .args in
-    let l = c .before .before .before .before .loop in
-    stage-unary (s .w) (s .words .now) (s .count) (s .ops .now) (s .operands .now) (l .stack) (l .sp) (l .i) (l .inv) (search needs) (c .before .before .token-at .result) (sym (c .before .before .token-at .ensures)) (inr (c .enum-told2 .given .1))
-
-loop-holds : tie.Need-loop-holds Inv-loop μ-loop
-loop-holds c =
-    let s = c .before .before .before .args in
-    stage-start (s .w) (s .words .now) (s .count) (s .ops .now) (s .operands .now) _ (search needs) (c .before .before .before .pre .formula)
-
-token-at-requires : tie.Need-token-at-requires Inv-loop μ-loop
-token-at-requires c κs = search needs
-
-add-i : tie.Need-add-i Inv-loop μ-loop
-add-i c = search needs
-
-enum-known-t : tie.Need-enum-known-t Inv-loop μ-loop
-enum-known-t c = search needs
-
-reduce-requires : tie.Need-reduce-requires Inv-loop μ-loop
-reduce-requires c κs = search needs
-
-mul-stack : tie.Need-mul-stack Inv-loop μ-loop
-mul-stack c = search needs
-
-array-write-stack : tie.Need-array-write-stack Inv-loop μ-loop
-array-write-stack c = search needs
-
-add-sp : tie.Need-add-sp Inv-loop μ-loop
-add-sp c = search needs
-
-loop-less : tie.Need-loop-less Inv-loop μ-loop
-loop-less c = search needs
-
-loop-again : tie.Need-loop-again Inv-loop μ-loop
-loop-again c =
-    let s = c .before .before .before .before .before .before .before .before .before .before .args in
-    let l = c .before .before .before .before .before .before .loop in
-    stage-constant (s .w) (s .words .now) (s .count) (s .ops .now) (s .operands .now) (l .stack) (l .sp) (l .i) (l .inv) (search needs) (c .before .before .before .before .token-at .result) (sym (c .before .before .before .before .token-at .ensures)) (c .reduce .result) _ (c .before .before .t .given .1)
-    (c .reduce .ensures ∙ ap (λ (m : ℕ). (c .before .before .t .given .0 .0) % m) (modulus-is (s .w) (c .before .before .before .before .before .before .before .before .before .before .pre .width)))
-
-enum-known-t-2 : tie.Need-enum-known-t-2 Inv-loop μ-loop
-enum-known-t-2 c = search needs
-
-mul-reduce : tie.Need-mul-reduce Inv-loop μ-loop
-mul-reduce c = let w = word c in search needs
-
-shared-slice-read-reduce : tie.Need-shared-slice-read-reduce Inv-loop μ-loop
-shared-slice-read-reduce c = word (c .before)
-
-reduce-requires-2 : tie.Need-reduce-requires-2 Inv-loop μ-loop
-reduce-requires-2 c κs = search needs
-
-mul-stack-2 : tie.Need-mul-stack-2 Inv-loop μ-loop
-mul-stack-2 c = search needs
-
-array-write-stack-2 : tie.Need-array-write-stack-2 Inv-loop μ-loop
-array-write-stack-2 c = search needs
-
-add-sp-2 : tie.Need-add-sp-2 Inv-loop μ-loop
-add-sp-2 c = search needs
-
-loop-less-2 : tie.Need-loop-less-2 Inv-loop μ-loop
-loop-less-2 c = search needs
-
-loop-again-2 : tie.Need-loop-again-2 Inv-loop μ-loop
-loop-again-2 c =
-    let s = c .before .before .before .before .before .before .before .before .before .before .before .args in
-    let l = c .before .before .before .before .before .before .before .loop in
-    stage-variable (s .w) (s .words .now) (s .count) (s .ops .now) (s .operands .now) (l .stack) (l .sp) (l .i) (l .inv) (search needs) (c .before .before .before .before .before .token-at .result) (sym (c .before .before .before .before .before .token-at .ensures)) (c .reduce2 .result) _ (c .before .before .before .t2 .given .1)
-    (c .reduce2 .ensures ∙ ap (λ (m : ℕ). getD (s .words .now) (c .before .before .before .t2 .given .0 .0) 0 % m) (modulus-is (s .w) (c .before .before .before .before .before .before .before .before .before .before .before .pre .width)))
-
-enum-known-t-3 : tie.Need-enum-known-t-3 Inv-loop μ-loop
-enum-known-t-3 c = search needs
-
-sub-sp : tie.Need-sub-sp Inv-loop μ-loop
-sub-sp c = let n = two c in search needs
-
-sub-a : tie.Need-sub-a Inv-loop μ-loop
-sub-a c = let n = two c in search needs
-
-mul-a : tie.Need-mul-a Inv-loop μ-loop
-mul-a c = let n = two c in search needs
-
-array-read-a : tie.Need-array-read-a Inv-loop μ-loop
-array-read-a c = let n = two c in search needs
-
-mul-b : tie.Need-mul-b Inv-loop μ-loop
-mul-b c = let n = two c in search needs
-
-array-read-b : tie.Need-array-read-b Inv-loop μ-loop
-array-read-b c = let n = two c in search needs
-
-gate-apply-lane-requires : tie.Need-gate-apply-lane-requires Inv-loop μ-loop
-gate-apply-lane-requires c κs = c .before .before .before .before .before .before .before .before .before .pre .width
-
-sub-stack : tie.Need-sub-stack Inv-loop μ-loop
-sub-stack c = let n = two (c .before) in search needs
-
-mul-stack-3 : tie.Need-mul-stack-3 Inv-loop μ-loop
-mul-stack-3 c = let n = two (c .before) in search needs
-
-array-write-stack-3 : tie.Need-array-write-stack-3 Inv-loop μ-loop
-array-write-stack-3 c = let n = two (c .before) in search needs
-
-loop-less-3 : tie.Need-loop-less-3 Inv-loop μ-loop
-loop-less-3 c = search needs
-
-loop-again-3 : tie.Need-loop-again-3 Inv-loop μ-loop
-loop-again-3 c =
-    let s = c .before .before .before .before .before .before .before .before .before .before .args in
-    let l = c .before .before .before .before .before .before .loop in
-    let n = two (c .before) in
-    stage-gate (s .w) (s .words .now) (s .count) (s .ops .now) (s .operands .now) (l .stack) (l .sp) (l .i) (l .inv) (search needs) (c .before .before .before .before .token-at .result) (sym (c .before .before .before .before .token-at .ensures)) (c .gate-apply-lane .result) (l .sp - 1) (l .sp - 1 - 1) (search needs) (search needs) _ (c .before .before .t3 .given .1) (c .gate-apply-lane .ensures)
-
-enum-told : tie.Need-enum-told Inv-loop μ-loop
-enum-told c = search needs
-
-sub-mod-not : tie.Need-sub-mod-not Inv-loop μ-loop
-sub-mod-not c = let n = one-not c in search needs
-
-mul-mod-not : tie.Need-mul-mod-not Inv-loop μ-loop
-mul-mod-not c = let n = one-not c in search needs
-
-array-read-mod-not : tie.Need-array-read-mod-not Inv-loop μ-loop
-array-read-mod-not c = let n = one-not c in search needs
-
-mod-not-requires : tie.Need-mod-not-requires Inv-loop μ-loop
-mod-not-requires c κs = search needs
-
-sub-stack-2 : tie.Need-sub-stack-2 Inv-loop μ-loop
-sub-stack-2 c = let n = one-not (c .before) in search needs
-
-mul-stack-4 : tie.Need-mul-stack-4 Inv-loop μ-loop
-mul-stack-4 c = let n = one-not (c .before) in search needs
-
-array-write-stack-4 : tie.Need-array-write-stack-4 Inv-loop μ-loop
-array-write-stack-4 c = let n = one-not (c .before) in search needs
-
-loop-less-4 : tie.Need-loop-less-4 Inv-loop μ-loop
-loop-less-4 c = search needs
-
-loop-again-4 : tie.Need-loop-again-4 Inv-loop μ-loop
-loop-again-4 c =
-    let s = c .before .before .before .before .before .before .before .before .before .args in
-    let l = c .before .before .before .before .before .loop in
-    let n = one-not (c .before) in
-    stage-not (s .w) (s .words .now) (s .count) (s .ops .now) (s .operands .now) (l .stack) (l .sp) (l .i) (l .inv) (search needs) (c .before .before .before .token-at .result) (sym (c .before .before .before .token-at .ensures)) (c .mod-not .result) (l .sp - 1) (search needs) (c .before .enum-told .given .1)
-    (c .mod-not .ensures ∙ ap (λ (m : ℕ). notOf m (getD (l .stack) (l .sp - 1) 0)) (modulus-is (s .w) (c .before .before .before .before .before .before .before .before .before .pre .width)))
-
-enum-told-2 : tie.Need-enum-told-2 Inv-loop μ-loop
-enum-told-2 c = search needs
-
-sub-mod-neg : tie.Need-sub-mod-neg Inv-loop μ-loop
-sub-mod-neg c = let n = one-neg c in search needs
-
-mul-mod-neg : tie.Need-mul-mod-neg Inv-loop μ-loop
-mul-mod-neg c = let n = one-neg c in search needs
-
-array-read-mod-neg : tie.Need-array-read-mod-neg Inv-loop μ-loop
-array-read-mod-neg c = let n = one-neg c in search needs
-
-mod-neg-requires : tie.Need-mod-neg-requires Inv-loop μ-loop
-mod-neg-requires c κs = search needs
-
-sub-stack-3 : tie.Need-sub-stack-3 Inv-loop μ-loop
-sub-stack-3 c = let n = one-neg (c .before) in search needs
-
-mul-stack-5 : tie.Need-mul-stack-5 Inv-loop μ-loop
-mul-stack-5 c = let n = one-neg (c .before) in search needs
-
-array-write-stack-5 : tie.Need-array-write-stack-5 Inv-loop μ-loop
-array-write-stack-5 c = let n = one-neg (c .before) in search needs
-
-loop-less-5 : tie.Need-loop-less-5 Inv-loop μ-loop
-loop-less-5 c = search needs
-
-loop-again-5 : tie.Need-loop-again-5 Inv-loop μ-loop
-loop-again-5 c =
-    let s = c .before .before .before .before .before .before .before .before .before .args in
-    let l = c .before .before .before .before .before .loop in
-    let n = one-neg (c .before) in
-    stage-neg (s .w) (s .words .now) (s .count) (s .ops .now) (s .operands .now) (l .stack) (l .sp) (l .i) (l .inv) (search needs) (c .before .before .before .token-at .result) (sym (c .before .before .before .token-at .ensures)) (c .mod-neg .result) (l .sp - 1) (search needs) (c .before .enum-told2 .given .1)
-    (c .mod-neg .ensures ∙ ap (λ (m : ℕ). negOf m (getD (l .stack) (l .sp - 1) 0)) (modulus-is (s .w) (c .before .before .before .before .before .before .before .before .before .pre .width)))
-
-enum-told-3 : tie.Need-enum-told-3 Inv-loop μ-loop
-enum-told-3 c = search needs
-
-returns : tie.Need-returns Inv-loop μ-loop
-returns c =
-    let s = c .before .before .before .before .before .before .before .before .args in
-    let l = c .before .before .before .before .loop in
-    absurd (stage-bad (s .w) (s .words .now) (s .count) (s .ops .now) (s .operands .now) (l .stack) (l .sp) (l .i) (l .inv) (search needs) (c .before .before .token-at .result) (sym (c .before .before .token-at .ensures)) (c .enum-told3 .given .1))
-
-array-read-result : tie.Need-array-read-result Inv-loop μ-loop
-array-read-result c = search needs
-
-returns-2 : tie.Need-returns-2 Inv-loop μ-loop
-returns-2 c =
-    let s = c .before .before .before .before .before .args in
-    let l = c .before .loop in
-    stage-end (s .w) (s .words .now) (s .count) (s .ops .now) (s .operands .now) (l .stack) (l .sp) (l .i) (l .inv) (search needs)
+returns-2 : tie.Need-returns-2
+returns-2 c = search needs
 
 pub eval-tokens-spec : {M : Type 1} → statement M
 eval-tokens-spec =
     tie.close
     (tie.spec
-    Inv-loop
-    μ-loop
-    loop-holds
-    token-at-requires
-    add-i
-    enum-known-t
-    reduce-requires
-    mul-stack
-    array-write-stack
-    add-sp
-    loop-less
-    loop-again
-    enum-known-t-2
-    mul-reduce
-    shared-slice-read-reduce
-    reduce-requires-2
-    mul-stack-2
-    array-write-stack-2
-    add-sp-2
-    loop-less-2
-    loop-again-2
-    enum-known-t-3
-    sub-sp
-    sub-a
-    mul-a
-    array-read-a
-    mul-b
-    array-read-b
-    gate-apply-lane-requires
-    sub-stack
-    mul-stack-3
-    array-write-stack-3
-    loop-less-3
-    loop-again-3
-    enum-told
-    sub-mod-not
-    mul-mod-not
-    array-read-mod-not
-    mod-not-requires
-    sub-stack-2
-    mul-stack-4
-    array-write-stack-4
-    loop-less-4
-    loop-again-4
-    enum-told-2
-    sub-mod-neg
-    mul-mod-neg
-    array-read-mod-neg
-    mod-neg-requires
-    sub-stack-3
-    mul-stack-5
-    array-write-stack-5
-    loop-less-5
-    loop-again-5
-    enum-told-3
+    slice-aggregate-eval-over
+    eval-over-requires
     returns
-    array-read-result
+    slice-aggregate-eval-over-2
+    eval-over-requires-2
     returns-2)
