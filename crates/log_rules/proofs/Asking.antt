@@ -55,11 +55,11 @@ module _ (nv w : ℕ) (r : Rule) (s n : ℕ) (records answers : List ℕ) where
     asked-number = elim (bool-cases (ltb 64 (r .tokenCount))) [
       | inl y ↦ ap (λ (b : Bool). either b .reply .refusal) y ∙ sym (refused-here 6 _ (too-many (ltb-true 64 (r .tokenCount) y)))
       | inr z ↦
-        let few : r .tokenCount ≤ 64 = ltb-false 64 (r .tokenCount) z in
-        let short : tooShort (r .tokenCount) (r .ops) (r .operands) ≡ false =
-        or-later (le-ltb (length (r .ops)) (r .tokenCount) (omega (arith, few, ops))) (le-ltb (length (r .operands)) (r .tokenCount) (omega (arith, few, operands))) in
-        ap (λ (b : Bool). either b .reply .refusal) z
-        ∙ refused-later 1 vars (refused-later 2 width (refused-later 4 (or-later short (or-later (le-ltb (length records) (nv * n) fits) (le-ltb (length answers) n room))) refl))
+          let few : r .tokenCount ≤ 64 = ltb-false 64 (r .tokenCount) z in
+          let short : tooShort (r .tokenCount) (r .ops) (r .operands) ≡ false =
+          or-later (le-ltb (length (r .ops)) (r .tokenCount) (omega (arith, few, ops))) (le-ltb (length (r .operands)) (r .tokenCount) (omega (arith, few, operands))) in
+          ap (λ (b : Bool). either b .reply .refusal) z
+          ∙ refused-later 1 vars (refused-later 2 width (refused-later 4 (or-later short (or-later (le-ltb (length records) (nv * n) fits) (le-ltb (length answers) n room))) refl))
     ]
 
     module _ (e : ruleRefusal nv r ≡ 0) (word : s < 2 ^ 64) where

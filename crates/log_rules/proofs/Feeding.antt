@@ -69,14 +69,14 @@ module _ (nv w : ℕ) (rules : Rules) (records seen : List ℕ) (n : ℕ) where
     went-more h er ex ep ea eo el g = record {
       number = number;
       pasts = λ e.
-      let m = g .pasts (zeros e .0) in
-      mapped-more (λ (t s : ℕ). pastAt nv w (ruleAt rules t) records s n) seen after i past h (ep (zeros e .1) ∙ ap (λ (s : ℕ). pastAt nv w (ruleAt rules i) records s n) (sym (m .rest i (omega arith)))) m;
+          let m = g .pasts (zeros e .0) in
+          mapped-more (λ (t s : ℕ). pastAt nv w (ruleAt rules t) records s n) seen after i past h (ep (zeros e .1) ∙ ap (λ (s : ℕ). pastAt nv w (ruleAt rules i) records s n) (sym (m .rest i (omega arith)))) m;
       ranks = λ e k l.
-      let test = ea (zeros e .1) k l in
-      let least = g .ranks (zeros e .0) k l in
-      eo k l
-      ∙ (λ j. cond (test j) (lesser (least j) (er j)) (least j))
-      ∙ ap (λ (m : ℕ). rankAt nv w rules records seen m k) (sym (add-one i));
+          let test = ea (zeros e .1) k l in
+          let least = g .ranks (zeros e .0) k l in
+          eo k l
+          ∙ (λ j. cond (test j) (lesser (least j) (er j)) (least j))
+          ∙ ap (λ (m : ℕ). rankAt nv w rules records seen m k) (sym (add-one i));
     }
       where
         number : refusal′ ≡ formulasRefusal nv rules (i + 1)

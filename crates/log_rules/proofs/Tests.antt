@@ -161,6 +161,20 @@ module _ (nv : ℕ) (rules : Rules) where
       after false true = refl
       after false false = refl
 
+  -- of good ranks the rest remains
+  pub rules-formulas : badRanks (rules .count) (rules .ranks) ≡ false → rulesRefusal nv rules ≡ formulasRefusal nv rules (rules .count)
+  unfolding formulasRefusal rulesRefusal
+  rules-formulas e =
+      ap (λ (b : Bool). refuse (anyBelow (rules .count) formula) 6 (refuse (anyBelow (rules .count) range) 10 (refuse b 11 0))) e
+
+  -- where no number applies, the ranks are good
+  pub rules-ranks : rulesRefusal nv rules ≡ 0 → badRanks (rules .count) (rules .ranks) ≡ false
+  unfolding rulesRefusal
+  rules-ranks e =
+      let p = passed (anyBelow (rules .count) formula) 6 _ (omega arith) e in
+      let q = passed (anyBelow (rules .count) range) 10 _ (omega arith) (p .1) in
+      passed (badRanks (rules .count) (rules .ranks)) 11 0 (omega arith) (q .1) .0
+
 -- ---- what is lent
 -- array after array
 module _ (rules : Rules) where

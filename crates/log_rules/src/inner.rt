@@ -305,6 +305,7 @@ pub fn feed_rules(
     requires { ⌜ Lends nv w (rulesIn count (now ranks) (now ms) (now windows) (now «token_counts») (now ops) (now operands)) n (now records) × Ranked (rulesIn count (now ranks) (now ms) (now windows) (now «token_counts») (now ops) (now operands)) ⌝ }
     requires { ⌜ (n ≤ length (now answers)) × ((n ≤ length (now fired)) × ((k : ℕ) → k < n → getD (now fired) k 0 ≡ noRank)) ⌝ }
     ensures { λ r. ⌜ r .refusal ≡ formulasRefusal nv (rulesIn count (now (ranks .entry)) (now (ms .entry)) (now (windows .entry)) (now («token_counts» .entry)) (now (ops .entry)) (now (operands .entry))) count ⌝ }
+    ensures { λ r. ⌜ length (r .seen) ≡ 8 ⌝ }
     ensures { λ r. ⌜ (r .refusal ≡ 0 → (i : ℕ) → i < 8 → getD (r .seen) i 0 ≡ windowAt nv w (rulesIn count (now (ranks .entry)) (now (ms .entry)) (now (windows .entry)) (now («token_counts» .entry)) (now (ops .entry)) (now (operands .entry))) (now (records .entry)) seen count n i) ⌝ }
     ensures { λ r. ⌜ (r .refusal ≡ 0 → (k : ℕ) → k < n → getD (now (fired .exit)) k 0 ≡ rankAt nv w (rulesIn count (now (ranks .entry)) (now (ms .entry)) (now (windows .entry)) (now («token_counts» .entry)) (now (ops .entry)) (now (operands .entry))) (now (records .entry)) seen count k) ⌝ }
 {

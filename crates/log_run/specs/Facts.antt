@@ -1,5 +1,5 @@
--- What holds of every run of openings and records from the empty log, under one set of rules and one width, however it is cut into calls: of `opened` and `logged`, which are what
--- `open` and `run_log` answer. proofs/Soundings has the proofs. Assumes nothing.
+-- What holds of every run of openings and records from the empty log, under one set of rules, one variable count and one width, however it is cut into calls: of `opened` and
+-- `logged`, which are what `open_log` and `run_log` answer. A refused call takes no record; by which number, `logRefusal` says alone. proofs/Soundings has the proofs. Assumes nothing.
 use mathlib.Core.Path.{_≡_}
 use mathlib.Core.Logic.{_⊎_}
 use mathlib.Core.Bool.{Bool, true, false, cond, _&&_}
@@ -10,11 +10,12 @@ use lib.ListN.{take}
 use Rattle.limits.specs.Refusal.{unlessRefused}
 use Rattle.rule_run.specs.Window.{sumBelow}
 use Rattle.rule_run.specs.Facts.{firesAt}
+use Rattle.log_rules.specs.Firing.{lesser}
 use Rattle.log_run.specs.declared.Log.{Log}
 use Rattle.log_rules.specs.Rules.{Rules, rankOf, ruleAt, anyBelow, logRefusal}
-use Rattle.log_run.specs.Step.{capped, logAfter, logged, emptyLog, opened}
+use Rattle.log_run.specs.Step.{capped, logged, emptyLog, opened}
 
--- one call of a run: `open`, or `run_log` with n records in a lent array
+-- one call of a run: `open_log`, or `run_log` with n records in a lent array
 pub data Event : Type 0 where
   opening : Event
   feeding : ℕ → List ℕ → Event
@@ -66,11 +67,12 @@ module _ (nv w : ℕ) (rules : Rules) where
   soundingOver [] s = s
   soundingOver (e ∷ more) s = soundingOver more (soundingOn e s)
 
-  -- S11: after any run the log is that of its last sounding alone, whose records `run_log` would take in one call or in any others: none before an opening, windows included
+  -- S11: after any run the log is that of its last sounding alone, taken in one call; S12: records before an opening leave nothing behind, in the windows either
   abbrev pub LastSounding : Type 0
   LastSounding =
       (run : List Event)
-      → logOver run emptyLog ≡ (let s = soundingOver run noSounding in cond (s .begun) (logAfter nv w rules (s .records) (opened emptyLog) (s .n)) emptyLog)
+      → let s = soundingOver run noSounding in
+      logOver run emptyLog ≡ cond (s .begun) (logOver (opening ∷ (feeding (s .n) (s .records) ∷ [])) emptyLog) emptyLog
 
   -- ---- when rules fire
   -- 2.6's fresh count: the rule at place i fires on record k of a sounding, the first of which is 0
@@ -81,6 +83,10 @@ module _ (nv w : ℕ) (rules : Rules) where
   -- some rule fires on it
   abbrev pub someFires : Sounding → ℕ → Bool
   someFires s k = anyBelow (rules .count) (λ (i : ℕ). firesIn s i k)
+
+  -- some rule fires in the sounding
+  abbrev pub everFires : Sounding → Bool
+  everFires s = anyBelow (s .n) (someFires s)
 
   -- record k is the first on which some rule fires
   pub record First (s : Sounding) (k : ℕ) : Type 0 where
@@ -98,6 +104,8 @@ module _ (nv w : ℕ) (rules : Rules) where
     pub among : place < rules .count
     pub fires : firesIn s place k ≡ true
     pub is : rankOf rules place ≡ rank
+    pub low : 1 ≤ rank
+    pub high : rank ≤ 8
     pub no-less : (i : ℕ) → i < rules .count → firesIn s i k ≡ true → rank ≤ rankOf rules i
 
   -- ---- the close
@@ -107,18 +115,18 @@ module _ (nv w : ℕ) (rules : Rules) where
     pub begun : l .begun ≡ s .begun
     pub number : l .shown .number ≡ capped (s .n)
     pub closed : (k : ℕ) → First s k → (l .shown .close ≡ capped (suc k)) × (Least s k (l .shown .rank) × (l .shown .later ≡ capped (laterFirings s k)))
-    pub unclosed : ((k : ℕ) → k < s .n → someFires s k ≡ false) → (l .shown .close ≡ 0) × ((l .shown .rank ≡ 0) × (l .shown .later ≡ 0))
+    pub unclosed : everFires s ≡ false → (l .shown .close ≡ 0) × ((l .shown .rank ≡ 0) × (l .shown .later ≡ 0))
 
   abbrev pub ShowsClose : Type 0
   ShowsClose = (run : List Event) → Shows (soundingOver run noSounding) (logOver run emptyLog)
 
-  -- one or the other holds: there is such a record, or no rule fires
+  -- if some rule fires in it, there is a first record
   pub record Fires (s : Sounding) : Type 0 where
     pub at : ℕ
     pub first : First s at
 
-  abbrev pub FiresOrNot : Type 0
-  FiresOrNot = (s : Sounding) → Fires s ⊎ ((k : ℕ) → k < s .n → someFires s k ≡ false)
+  abbrev pub FirstFires : Type 0
+  FirstFires = (s : Sounding) → everFires s ≡ true → Fires s
 
   -- 02, 2.7: no later record alters it. Of any log that shows a close, whatever calls follow before the next opening
   abbrev pub Unaltered : Type 0
@@ -131,25 +139,24 @@ module _ (nv w : ℕ) (rules : Rules) where
   abbrev pub sameClose : Log → Log → Bool
   sameClose a b = eqb (a .shown .close) (b .shown .close) && eqb (a .shown .rank) (b .shown .rank)
 
-  -- how often the close that is shown changes, from call to call
-  unfoldable pub closings : List Event → Log → ℕ
-  closings [] l = 0
-  closings (e ∷ more) l = cond (sameClose l (logOn e l)) 0 1 + closings more (logOn e l)
+  -- how often the close that is shown changes, from call to call; a call may take one record or many
+  unfoldable pub closeChanges : List Event → Log → ℕ
+  closeChanges [] l = 0
+  closeChanges (e ∷ more) l = cond (sameClose l (logOn e l)) 0 1 + closeChanges more (logOn e l)
 
-  -- on no run is a sounding closed twice: after its opening the close that is shown changes once if some rule fires in it, and else never, whether the records come one by one or
-  -- many in a call
+  -- on no run is a sounding closed twice: after its opening the close that is shown changes once if some rule fires in it, and else never
   abbrev pub ClosedOnce : Type 0
   ClosedOnce =
       (before more : List Event) → goesOn more ≡ true
-      → let s = soundingOver more newSounding in
-      closings more (logOver (before ++ (opening ∷ [])) emptyLog) ≡ cond (anyBelow (s .n) (someFires s)) 1 0
+      → closeChanges more (logOver (before ++ (opening ∷ [])) emptyLog) ≡ cond (everFires (soundingOver more newSounding)) 1 0
 
-  -- where two rules fire on the record that closes, the smaller rank is the one shown: not the greater, and if no third rule fires it is that one
+  -- where two rules fire on the record that closes, the smaller rank is the one shown: their ranks differ, the greater isn't shown, and if no third rule fires the smaller is
   abbrev pub SmallerRank : Type 0
   SmallerRank =
       (run : List Event) (i j k : ℕ)
       → let s = soundingOver run noSounding in
-      First s k → i < rules .count → j < rules .count → firesIn s i k ≡ true → firesIn s j k ≡ true
-      → rankOf rules i < rankOf rules j
-      → (logOver run emptyLog .shown .rank < rankOf rules j)
-      × (((t : ℕ) → t < rules .count → firesIn s t k ≡ true → (t ≡ i) ⊎ (t ≡ j)) → logOver run emptyLog .shown .rank ≡ rankOf rules i)
+      let rank = logOver run emptyLog .shown .rank in
+      First s k → i < rules .count → j < rules .count → (i ≡ j → ⊥) → firesIn s i k ≡ true → firesIn s j k ≡ true
+      → (rankOf rules i ≡ rankOf rules j → ⊥)
+      × ((rankOf rules i < rankOf rules j → rank < rankOf rules j)
+      × (((t : ℕ) → t < rules .count → firesIn s t k ≡ true → (t ≡ i) ⊎ (t ≡ j)) → rank ≡ lesser (rankOf rules i) (rankOf rules j)))

@@ -43,7 +43,7 @@ module _ (nv w : ℕ) (rules : Rules) where
   abbrev pub rankOn : List ℕ → List ℕ → ℕ
   rankOn x windows = leastRank rules (rules .count) (λ (i : ℕ). fires nv w (ruleAt rules i) x (getD windows i 0))
 
-  -- S11: eight windows. Those of the rules have seen the record, after a close too; the others stay
+  -- S11, S12: eight windows, by the rules' places. Those of the rules have seen the record, after a close too; the others stay
   abbrev pub windowsOn : List ℕ → List ℕ → List ℕ
   windowsOn x windows = map (λ (i : ℕ). cond (ltb i (rules .count)) (seen nv w (ruleAt rules i) x (getD windows i 0)) (getD windows i 0)) (countUp 0 8)
 

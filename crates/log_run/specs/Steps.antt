@@ -1,7 +1,6 @@
 -- What the contracts of src/inner.rt cite, beside specs/Step. Assumes nothing.
 use mathlib.Core.List.{List}
 use Prim.Native.Nat.{ℕ, zero, suc}
-use lib.ListN.{getD}
 use Rattle.limits.specs.Refusal.{unlessRefused}
 use Rattle.log_rules.specs.Rules.{Rules}
 use Rattle.log_rules.specs.Steps.{formulasRefusal}
@@ -17,7 +16,7 @@ ruled nv w rules l n records = record {
   log = unlessRefused (formulasRefusal nv rules (rules .count)) (logAfter nv w rules records l n) l;
 }
 
--- what is shown after n records, of each of which a list has the least rank that fires
-unfoldable pub notedOver : List ℕ → Shown → ℕ → Shown
-notedOver ranks s zero = s
-notedOver ranks s (suc n) = noted (getD ranks n 0) (notedOver ranks s n)
+-- what is shown after n records; given is the least rank that fires on each
+unfoldable pub notedOver : (ℕ → ℕ) → Shown → ℕ → Shown
+notedOver rank s zero = s
+notedOver rank s (suc n) = noted (rank n) (notedOver rank s n)

@@ -16,6 +16,7 @@ ghost use Rattle.log_run.specs.Steps.{ruled, notedOver};
 
 // How many records go at once where there are few of them, and where there are many.
 const FEW: usize = 16;
+
 const MANY: usize = 1024;
 
 // ---- what is shown
@@ -59,7 +60,7 @@ fn note(shown: Shown, rank: u8) -> Shown
 // The same for n records.
 fn note_all(fired: &[u8], shown: Shown, n: usize) -> Shown
     requires { ⌜ n ≤ length (now fired) ⌝ }
-    ensures { λ r. ⌜ r ≡ notedOver (now (fired .entry)) shown n ⌝ }
+    ensures { λ r. ⌜ r ≡ notedOver (λ (k : ℕ). getD (now (fired .entry)) k 0) shown n ⌝ }
 {
     let mut s = shown;
     let mut k: usize = 0;
@@ -104,7 +105,7 @@ fn run_over(
     records: &[u64],
 ) -> LogAnswer
     requires { ⌜ Lends nv w (rulesIn count (now ranks) (now ms) (now windows) (now «token_counts») (now ops) (now operands)) n (now records) × (Ranked (rulesIn count (now ranks) (now ms) (now windows) (now «token_counts») (now ops) (now operands)) × (log .begun ≡ true)) ⌝ }
-    requires { ⌜ (n ≤ length (now answers)) × ((n ≤ length (now fired)) × ((k : ℕ) → k < n → getD (now fired) k 0 ≡ noRank)) ⌝ }
+    requires { ⌜ (1 ≤ n) × ((n ≤ length (now answers)) × ((n ≤ length (now fired)) × ((k : ℕ) → k < n → getD (now fired) k 0 ≡ noRank))) ⌝ }
     ensures { λ r. ⌜ r ≡ ruled nv w (rulesIn count (now (ranks .entry)) (now (ms .entry)) (now (windows .entry)) (now («token_counts» .entry)) (now (ops .entry)) (now (operands .entry))) log n (now (records .entry)) ⌝ }
 {
     let seen = log.windows;
@@ -158,7 +159,7 @@ fn run_few(
     records: &[u64],
 ) -> LogAnswer
     requires { ⌜ Lends nv w (rulesIn count (now ranks) (now ms) (now windows) (now «token_counts») (now ops) (now operands)) n (now records) × (Ranked (rulesIn count (now ranks) (now ms) (now windows) (now «token_counts») (now ops) (now operands)) × (log .begun ≡ true)) ⌝ }
-    requires { ⌜ n ≤ 16 ⌝ }
+    requires { ⌜ (1 ≤ n) × (n ≤ 16) ⌝ }
     ensures { λ r. ⌜ r ≡ ruled nv w (rulesIn count (now (ranks .entry)) (now (ms .entry)) (now (windows .entry)) (now («token_counts» .entry)) (now (ops .entry)) (now (operands .entry))) log n (now (records .entry)) ⌝ }
 {
     let mut fired = [NO_RANK; FEW];
@@ -197,7 +198,7 @@ fn run_many(
     records: &[u64],
 ) -> LogAnswer
     requires { ⌜ Lends nv w (rulesIn count (now ranks) (now ms) (now windows) (now «token_counts») (now ops) (now operands)) n (now records) × (Ranked (rulesIn count (now ranks) (now ms) (now windows) (now «token_counts») (now ops) (now operands)) × (log .begun ≡ true)) ⌝ }
-    requires { ⌜ n ≤ 1024 ⌝ }
+    requires { ⌜ (1 ≤ n) × (n ≤ 1024) ⌝ }
     ensures { λ r. ⌜ r ≡ ruled nv w (rulesIn count (now (ranks .entry)) (now (ms .entry)) (now (windows .entry)) (now («token_counts» .entry)) (now (ops .entry)) (now (operands .entry))) log n (now (records .entry)) ⌝ }
 {
     let mut fired = [NO_RANK; MANY];
@@ -218,6 +219,14 @@ fn run_many(
         n,
         records,
     )
+}
+
+// How many of the records that are left go at once.
+fn at_once(left: usize) -> usize
+    requires { ⌜ 1 ≤ left ⌝ }
+    ensures { λ r. ⌜ (1 ≤ r) × ((r ≤ left) × (r ≤ 1024)) ⌝ }
+{
+    if left < MANY { left } else { MANY }
 }
 
 // All records, some of them at a time.
@@ -259,7 +268,7 @@ pub fn run(
     let mut now = log;
     let mut at: usize = 0;
     while at < n {
-        let size = if n - at < MANY { n - at } else { MANY };
+        let size = at_once(n - at);
         let from = words * at;
         let x = run_many(
             now,

@@ -5,8 +5,8 @@ ghost use mathlib.Core.Path.{_≡_};
 ghost use Rattle.log_rules.specs.Rules.{rulesIn};
 ghost use Rattle.log_run.specs.Step.{logged, opened};
 
-// What the log shows of its sounding: the number of the last record, the number of the record that closed it (0 for none) with the rank
-// that won, and how many later records had a firing.
+// What the log shows of its sounding: the number of the last record, the number of the record that closed it and the rank that won (0 and
+// 0 for none), and how many later records had a firing. Number and count stay at 2^64 - 1.
 pub struct Shown {
     pub number: u64,
     pub close: u64,
@@ -14,8 +14,8 @@ pub struct Shown {
     pub later: u64,
 }
 
-// Whether a sounding was opened, what is shown of it, and what the window of the rule at each place has seen. Every value is a log; the
-// empty one is false and zeros.
+// Whether a sounding was opened, what is shown of it, and what the window of the rule at each place has seen (`RuleState` of rule_run).
+// Every value is a log; the empty one is false and zeros.
 pub struct Log {
     pub begun: bool,
     pub shown: Shown,
@@ -46,7 +46,8 @@ pub fn open_log(log: Log) -> Log
 
 // Takes n records in turn: on the first where some rule fires the sounding is closed with that record's number and the least rank that
 // fires; later records with a firing are only counted; without a sounding nothing changes. Of rule i are the values at place i and the
-// opcodes and operands from place 64 i on. Refuses 1, 2, 4, 6, 10, 11, over every claimed rule.
+// opcodes and operands from place 64 i on. Refuses 1, 2, 4, 6, 10, 11, the
+// least first, over every claimed rule, before any opening too.
 pub fn run_log(
     log: Log,
     rule_count: usize,

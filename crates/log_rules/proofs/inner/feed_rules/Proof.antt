@@ -105,7 +105,7 @@ returns c = let s = c .before .before .before .before .before .before .before .b
     let l = c .before .loop in
     let end : l .i ≡ a .count = search needs in
     let g = went-at (a .nv) (a .w) (rulesIn (a .count) (a .ranks .now) (a .ms .now) (a .windows .now) (a .token-counts .now) (a .ops .now) (a .operands .now)) (a .records .now) (a .t12) (a .n) (l .refusal) (l .after) (l .fired) end (l .inv .1 .1 .1 .1) in
-    (g .number, (λ e i h. went-windows (a .nv) (a .w) (rulesIn (a .count) (a .ranks .now) (a .ms .now) (a .windows .now) (a .token-counts .now) (a .ops .now) (a .operands .now)) (a .records .now) (a .t12) (a .n) (a .count) (l .refusal) (l .after) (l .fired) g e i, g .ranks))
+    (g .number, (l .inv .1 .1 .1 .0, (λ e i h. went-windows (a .nv) (a .w) (rulesIn (a .count) (a .ranks .now) (a .ms .now) (a .windows .now) (a .token-counts .now) (a .ops .now) (a .operands .now)) (a .records .now) (a .t12) (a .n) (a .count) (l .refusal) (l .after) (l .fired) g e i, g .ranks)))
 
 pub feed-rules-spec : {M : Type 1} → statement M
 feed-rules-spec =

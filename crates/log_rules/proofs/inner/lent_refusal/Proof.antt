@@ -10,10 +10,8 @@ use borrow.Author.Needs.{needs}
 use Rattle.log_rules.proofs.inner.lent_refusal.Statement.{statement}
 use Rattle.log_rules.proofs.inner.lent_refusal.Tie as tie
 
--- HELPERS
 some : (c : tie.Else3) → 1 ≤ c .before .before .before .before .before .before .before .before .before .before .before .before .before .args .nv
 some c = within 1 6 (c .before .before .before .before .before .before .before .before .before .before .before .before .before .args .nv) (sym (c .before .before .before .before .before .bad-count .ensures) ∙ c .before .before .before .before .if1 .left) .least
--- END HELPERS
 
 bad-count-requires : tie.Need-bad-count-requires
 bad-count-requires c κs = search needs

@@ -1,0 +1,30 @@
+-- `log_run::inner::run_few` meets its contract. Assumes nothing.
+use Prim.Native.Nat.{ℕ}
+use lib.ListN.{length-replicate}
+use Rattle.log_run.proofs.Stepping.{all-same}
+use borrow.Author.Needs.{needs}
+use native.Mathlib.Omega.{arith}
+use Rattle.log_run.proofs.inner.run_few.Statement.{statement}
+use Rattle.log_run.proofs.inner.run_few.Tie as tie
+
+slice-aggregate-run-over : tie.Need-slice-aggregate-run-over
+slice-aggregate-run-over c = search needs
+
+slice-aggregate-run-over-2 : tie.Need-slice-aggregate-run-over-2
+slice-aggregate-run-over-2 c = search needs
+
+run-over-requires : tie.Need-run-over-requires
+run-over-requires c κs = let s = c .before .before .before .before .before .before .before .before .before in
+    let p = s .pre in
+    let n = s .args .n in (
+      p .0,
+      (p .1 .0, (omega (arith, p .1 .1, length-replicate {A = ℕ} 16 0), (omega (arith, p .1 .1, length-replicate {A = ℕ} 16 9), λ k l. all-same 16 9 k (omega (arith, p .1 .1))))),
+    )
+
+returns : tie.Need-returns
+returns c = search needs
+
+pub run-few-spec : {M : Type 1} → statement M
+run-few-spec =
+    tie.close
+    (tie.spec slice-aggregate-run-over slice-aggregate-run-over-2 run-over-requires returns)
