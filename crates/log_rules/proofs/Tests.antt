@@ -6,7 +6,7 @@ use mathlib.Core.List.{List}
 use Prim.Native.Nat.{ℕ, zero, suc, _+_, _*_, _/_, _≤_, _<_}
 use native.Mathlib.Numerals.{add-one}
 use native.Mathlib.Omega.{arith}
-use borrow.Author.Tests.{ltb-false, le-ltb, lt-ltb, eq-eqb, ne-eqb}
+use borrow.Author.Tests.{ltb-false, le-ltb, lt-ltb, eqb-false, eq-eqb, ne-eqb}
 use lib.Dec.{ltb, eqb}
 use lib.ListN.{length, getD}
 use Rattle.arrays.proofs.Lists.{bool-cases}
@@ -296,3 +296,128 @@ module _ (rules : Rules) where
   rank-same (suc n) f g h =
       let e = rank-same n f g (λ i l. h i (omega arith)) in
       λ j. cond (h n (omega arith) j) (lesser (e j) (rankOf rules n)) (e j)
+
+-- ---- which tests passed
+module _ (nv w : ℕ) (rules : Rules) (n : ℕ) (records : List ℕ) where
+  pub refusal-none : logRefusal nv w rules n records ≡ 0 → (lentRefusal nv w rules n records ≡ 0) × (rulesRefusal nv rules ≡ 0)
+  unfolding lentRefusal logRefusal rulesRefusal
+  refusal-none e =
+      let p = passed (badCount nv) 1 _ (omega arith) e in
+      let q = passed (badWidth w) 2 _ (omega arith) (p .1) in
+      let r = passed (shortRules rules || ltb (length records) (nv * n)) 4 _ (omega arith) (q .1) in
+      (refused-later 1 (p .0) (refused-later 2 (q .0) (refused-later 4 (r .0) refl)), r .1)
+
+  -- other records that are long enough pass too
+  pub refusal-other : logRefusal nv w rules n records ≡ 0 → (k : ℕ) (xs : List ℕ) → nv * k ≤ length xs → logRefusal nv w rules k xs ≡ 0
+  unfolding logRefusal
+  refusal-other e k xs h =
+      let p = passed (badCount nv) 1 _ (omega arith) e in
+      let q = passed (badWidth w) 2 _ (omega arith) (p .1) in
+      let r = passed (shortRules rules || ltb (length records) (nv * n)) 4 _ (omega arith) (q .1) in
+      refused-later 1 (p .0) (refused-later 2 (q .0) (refused-later 4 (or-later (neither (shortRules rules) _ (r .0) .0) (le-ltb (length xs) (nv * k) h)) (r .1)))
+
+-- two places of good ranks have different ones
+module _ (count : ℕ) (ranks : List ℕ) (good : badRanks count ranks ≡ false) where
+  earlier : (i j : ℕ) → i < j → j < count → getD ranks i 0 ≡ getD ranks j 0 → ⊥
+  unfolding badRanks
+  earlier i j l h =
+      let p = neither (outsideOf 1 8 count) _ good in
+      let q = neither (outsideOf 1 8 (getD ranks j 0)) (sameRank ranks j) (none-below (bad count ranks) count (p .1) j h) in
+      eqb-false (getD ranks i 0) (getD ranks j 0) (none-below (λ (t : ℕ). eqb (getD ranks t 0) (getD ranks j 0)) j (q .1) i l)
+
+  pub ranks-differ : (i j : ℕ) → i < count → j < count → (i ≡ j → ⊥) → getD ranks i 0 ≡ getD ranks j 0 → ⊥
+  ranks-differ i j hi hj n e = elim (le-or-lt i j) [ inl a ↦ earlier i j (omega (arith, a, n)) hj e | inr b ↦ earlier j i b hi (sym e) ]
+
+-- ---- the first place
+pub record FirstAt (f : ℕ → Bool) (n : ℕ) : Type 0 where
+  pub at : ℕ
+  pub below : at < n
+  pub holds : f at ≡ true
+  pub before : (i : ℕ) → i < at → f i ≡ false
+
+pub any-first : (f : ℕ → Bool) (n : ℕ) → anyBelow n f ≡ true → FirstAt f n
+unfolding anyBelow
+any-first f zero e = absurd (true-not-false (sym e))
+any-first f (suc n) e = elim (bool-cases (anyBelow n f)) [
+  | inl y ↦ let x = any-first f n y in record { at = x .at; below = omega (arith, x .below); holds = x .holds; before = x .before }
+  | inr o ↦ record { at = n; below = omega arith; holds = sym (or-later o refl) ∙ e; before = none-below f n o }
+]
+
+-- ---- the least rank
+-- r is the least rank of those among the first n that pass the test
+pub record LeastOf (rules : Rules) (n : ℕ) (test : ℕ → Bool) (r : ℕ) : Type 0 where
+  pub place : ℕ
+  pub among : place < n
+  pub passes : test place ≡ true
+  pub is : rankOf rules place ≡ r
+  pub no-less : (i : ℕ) → i < n → test i ≡ true → r ≤ rankOf rules i
+
+module _ (rules : Rules) (test : ℕ → Bool) where
+  -- none passes, or there is a least
+  abbrev None : ℕ → Type 0
+  None n = ((i : ℕ) → i < n → test i ≡ false) × (leastRank rules n test ≡ noRank)
+
+  rank-skip : (n : ℕ) → test n ≡ false → leastRank rules (suc n) test ≡ leastRank rules n test
+  unfolding leastRank
+  rank-skip n e = ap (λ (b : Bool). cond b (lesser (leastRank rules n test) (rankOf rules n)) (leastRank rules n test)) e
+
+  rank-takes : (n : ℕ) → test n ≡ true → leastRank rules (suc n) test ≡ lesser (leastRank rules n test) (rankOf rules n)
+  unfolding leastRank
+  rank-takes n e = ap (λ (b : Bool). cond b (lesser (leastRank rules n test) (rankOf rules n)) (leastRank rules n test)) e
+
+  -- the last of n + 1 doesn't pass
+  skipped : (n : ℕ) → test n ≡ false → None n ⊎ LeastOf rules n test (leastRank rules n test) → None (suc n) ⊎ LeastOf rules (suc n) test (leastRank rules (suc n) test)
+  skipped n e (inl x) = inl ((λ i l. below-more test n (x .0) e i (omega arith)), rank-skip n e ∙ x .1)
+  skipped n e (inr x) = inr (record {
+    place = x .place;
+    among = omega (arith, x .among);
+    passes = x .passes;
+    is = x .is ∙ sym (rank-skip n e);
+    no-less = λ i l t. elim (le-or-lt n i) [
+      | inl a ↦ absurd (true-not-false (sym t ∙ ap test (sym (same i n a l)) ∙ e))
+      | inr b ↦ omega (arith, x .no-less i b t, rank-skip n e)
+    ];
+  })
+
+  -- it passes
+  passing : (n : ℕ) → rankOf rules n ≤ 8 → test n ≡ true → None n ⊎ LeastOf rules n test (leastRank rules n test) → LeastOf rules (suc n) test (leastRank rules (suc n) test)
+  passing n h e (inl x) =
+      let r : leastRank rules (suc n) test ≡ rankOf rules n = rank-takes n e ∙ sym (lesser-right (leastRank rules n test) (rankOf rules n) (omega (arith, x .1, h))) in
+      record {
+        place = n;
+        among = omega arith;
+        passes = e;
+        is = sym r;
+        no-less = λ i l t. elim (le-or-lt n i) [
+          | inl a ↦ omega (arith, r, ap (rankOf rules) (same i n a l))
+          | inr b ↦ absurd (true-not-false (sym t ∙ x .0 i b))
+        ];
+      }
+  passing n h e (inr x) = elim (le-or-lt (leastRank rules n test) (rankOf rules n)) [
+    | inl a ↦
+        let r : leastRank rules (suc n) test ≡ leastRank rules n test = rank-takes n e ∙ sym (lesser-left (leastRank rules n test) (rankOf rules n) a) in
+        record {
+          place = x .place;
+          among = omega (arith, x .among);
+          passes = x .passes;
+          is = x .is ∙ sym r;
+          no-less = λ i l t. elim (le-or-lt n i) [ inl q ↦ omega (arith, r, a, ap (rankOf rules) (same i n q l)) | inr q ↦ omega (arith, r, x .no-less i q t) ];
+        }
+    | inr b ↦
+        let r : leastRank rules (suc n) test ≡ rankOf rules n = rank-takes n e ∙ sym (lesser-right (leastRank rules n test) (rankOf rules n) b) in
+        record {
+          place = n;
+          among = omega arith;
+          passes = e;
+          is = sym r;
+          no-less = λ i l t. elim (le-or-lt n i) [ inl q ↦ omega (arith, r, ap (rankOf rules) (same i n q l)) | inr q ↦ omega (arith, r, b, x .no-less i q t) ];
+        }
+  ]
+
+  pub rank-least : (n : ℕ) → ((i : ℕ) → i < n → rankOf rules i ≤ 8) → None n ⊎ LeastOf rules n test (leastRank rules n test)
+  unfolding leastRank
+  rank-least zero h = inl ((λ i l. absurd (omega arith)), refl)
+  rank-least (suc n) h = elim (bool-cases (test n)) [
+    | inl y ↦ inr (passing n (h n (omega arith)) y (rank-least n (λ i l. h i (omega arith))))
+    | inr o ↦ skipped n o (rank-least n (λ i l. h i (omega arith)))
+  ]

@@ -1,2 +1,4 @@
 -- Laws of this crate's definitions.
 pub mod Stepping
+pub mod Soundings
+pub mod Closing

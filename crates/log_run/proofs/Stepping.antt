@@ -99,11 +99,11 @@ eight-same f g h = windows-are g (map f (countUp 0 8)) (length-map (countUp 0 8)
 
 module _ (nv w : ℕ) (rules : Rules) where
   -- ---- one record
-  step-open : (x : List ℕ) (l : Log) → l .begun ≡ true → stepped nv w rules x l ≡ record { begun = true; shown = noted (rankOn nv w rules x (l .windows)) (l .shown); windows = windowsOn nv w rules x (l .windows) }
+  pub step-open : (x : List ℕ) (l : Log) → l .begun ≡ true → stepped nv w rules x l ≡ record { begun = true; shown = noted (rankOn nv w rules x (l .windows)) (l .shown); windows = windowsOn nv w rules x (l .windows) }
   unfolding stepped
   step-open x l e = ap (λ (b : Bool). cond b (record { begun = true; shown = noted (rankOn nv w rules x (l .windows)) (l .shown); windows = windowsOn nv w rules x (l .windows) }) l) e
 
-  step-shut : (x : List ℕ) (l : Log) → l .begun ≡ false → stepped nv w rules x l ≡ l
+  pub step-shut : (x : List ℕ) (l : Log) → l .begun ≡ false → stepped nv w rules x l ≡ l
   unfolding stepped
   step-shut x l e = ap (λ (b : Bool). cond b (record { begun = true; shown = noted (rankOn nv w rules x (l .windows)) (l .shown); windows = windowsOn nv w rules x (l .windows) }) l) e
 
