@@ -2,3 +2,4 @@
 pub mod Stepping
 pub mod Soundings
 pub mod Closing
+pub mod Worked

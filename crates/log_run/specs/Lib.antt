@@ -2,3 +2,4 @@
 pub mod Step
 pub mod Steps
 pub mod Facts
+pub mod Cases

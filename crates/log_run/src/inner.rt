@@ -17,7 +17,7 @@ ghost use Rattle.log_run.specs.Steps.{ruled, notedOver};
 // How many records go at once where there are few of them, and where there are many.
 const FEW: usize = 16;
 
-const MANY: usize = 1024;
+const MANY: usize = 256;
 
 // ---- what is shown
 
@@ -33,6 +33,7 @@ fn note(shown: Shown, rank: u8) -> Shown
     ensures { λ r. ⌜ r ≡ noted rank shown ⌝ }
 {
     let number = one_more(shown.number);
+    let later = one_more(shown.later);
     if NO_RANK <= rank {
         return Shown {
             number,
@@ -46,14 +47,14 @@ fn note(shown: Shown, rank: u8) -> Shown
             number,
             close: number,
             rank: rank as u32,
-            later: shown.later,
+            later: shown.later, // the record that closes is no later one
         };
     }
     Shown {
         number,
         close: shown.close,
-        rank: shown.rank,
-        later: one_more(shown.later),
+        rank: shown.rank, // whatever rank fires now
+        later,
     }
 }
 
@@ -182,7 +183,7 @@ fn run_few(
     )
 }
 
-// At most 1,024.
+// At most 256.
 fn run_many(
     log: Log,
     count: usize,
@@ -198,7 +199,7 @@ fn run_many(
     records: &[u64],
 ) -> LogAnswer
     requires { ⌜ Lends nv w (rulesIn count (now ranks) (now ms) (now windows) (now «token_counts») (now ops) (now operands)) n (now records) × (Ranked (rulesIn count (now ranks) (now ms) (now windows) (now «token_counts») (now ops) (now operands)) × (log .begun ≡ true)) ⌝ }
-    requires { ⌜ (1 ≤ n) × (n ≤ 1024) ⌝ }
+    requires { ⌜ (1 ≤ n) × (n ≤ 256) ⌝ }
     ensures { λ r. ⌜ r ≡ ruled nv w (rulesIn count (now (ranks .entry)) (now (ms .entry)) (now (windows .entry)) (now («token_counts» .entry)) (now (ops .entry)) (now (operands .entry))) log n (now (records .entry)) ⌝ }
 {
     let mut fired = [NO_RANK; MANY];
@@ -224,7 +225,7 @@ fn run_many(
 // How many of the records that are left go at once.
 fn at_once(left: usize) -> usize
     requires { ⌜ 1 ≤ left ⌝ }
-    ensures { λ r. ⌜ (1 ≤ r) × ((r ≤ left) × (r ≤ 1024)) ⌝ }
+    ensures { λ r. ⌜ (1 ≤ r) × ((r ≤ left) × (r ≤ 256)) ⌝ }
 {
     if left < MANY { left } else { MANY }
 }

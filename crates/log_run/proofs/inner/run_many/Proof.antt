@@ -18,7 +18,7 @@ run-over-requires c κs = let s = c .before .before .before .before .before .bef
     let p = s .pre in
     let n = s .args .n in (
       p .0,
-      (p .1 .0, (omega (arith, p .1 .1, length-replicate {A = ℕ} 1024 0), (omega (arith, p .1 .1, length-replicate {A = ℕ} 1024 9), λ k l. all-same 1024 9 k (omega (arith, p .1 .1))))),
+      (p .1 .0, (omega (arith, p .1 .1, length-replicate {A = ℕ} 256 0), (omega (arith, p .1 .1, length-replicate {A = ℕ} 256 9), λ k l. all-same 256 9 k (omega (arith, p .1 .1))))),
     )
 
 returns : tie.Need-returns
