@@ -109,8 +109,8 @@ struct simjaldek_rule_reply {
     uint64_t state;
 };
 
-/* The closing log of a station's soundings: whether one is open (0 for no, any other number for yes; handed back 0 or 1, and as it was beside a refusal), the rank that closed it (0 for none), the number
-   of its last record, the number of the record that closed it (0 for none), how many later records had a firing, and what each rule's window has seen. */
+/* The closing log of a station's soundings: whether one is open (0 for no, any other number for yes), the rank that closed it (0 for none), the number of its last record, the number of the record
+   that closed it (0 for none), how many later records had a firing, and what each rule's window has seen. */
 struct simjaldek_log_state {
     uint32_t open;
     uint32_t rank;
@@ -120,7 +120,7 @@ struct simjaldek_log_state {
     uint64_t windows[8];
 };
 
-/* The log after a run's records; as it was beside a refusal. */
+/* The log after a run's records, `open` 0 or 1; as it was beside a refusal, bit for bit. */
 struct simjaldek_log_reply {
     uint32_t refusal;
     struct simjaldek_log_state log;
@@ -242,11 +242,12 @@ struct simjaldek_rule_reply simjaldek_run_rule(
     size_t n,
     const uint64_t *records, size_t records_len);
 
-/* Starts a sounding. */
+/* `log_run::open_log`: the log of a new sounding, without a close and with fresh windows. */
 struct simjaldek_log_state simjaldek_open_log(
     struct simjaldek_log_state log);
 
-/* Runs records through a closing log. */
+/* `log_run::run_log`: of rule i are the values at place i, and the opcodes and operands from place 64 i on. Refuses 1, 2, 4, 6 for a formula of any rule, 10 for a window that isn't 1 to 64 or
+   an m that isn't 1 to the window, and 11 for no rule, more than eight, a rank that isn't 1 to 8 or two equal ranks. */
 struct simjaldek_log_reply simjaldek_run_log(
     struct simjaldek_log_state log,
     size_t rule_count,

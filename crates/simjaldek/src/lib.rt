@@ -6,6 +6,8 @@ use rule_run::RuleState;
 use simjaldek_abi::CostReply;
 use simjaldek_abi::DrawReply;
 use simjaldek_abi::FormulaReply;
+use simjaldek_abi::LogReply;
+use simjaldek_abi::LogState;
 use simjaldek_abi::PointsReply;
 use simjaldek_abi::Reply;
 use simjaldek_abi::ResidualReply;
@@ -28,6 +30,8 @@ ghost use Rattle.expr_cost.specs.Answers.{costed};
 ghost use Rattle.expr_cost.specs.Cost.{isBetter};
 ghost use Rattle.load_draw.specs.Draw.{called};
 ghost use Rattle.rule_run.specs.Window.{ran};
+ghost use Rattle.log_rules.specs.Rules.{rulesIn};
+ghost use Rattle.log_run.specs.Step.{opened, logged};
 ghost use Rattle.probe_points.specs.Points.{drawn, madePoints};
 ghost use Rattle.probe.specs.FormulaRow.{probed};
 ghost use Rattle.row_fingerprint.specs.Fingerprint.{fingerprintOf};
@@ -38,7 +42,7 @@ ghost use Rattle.search_product_forms.specs.Written.{forms};
 ghost use Rattle.search_product.specs.Answer.{product};
 ghost use Rattle.search_residual.specs.Answer.{completion};
 ghost use Rattle.simjaldek_abi.specs.Slices.{rowIn, shortRow, rowRefusal, pointsIn, pointsRefusal, twoShort, threeShort, gateRefusal};
-ghost use Rattle.simjaldek_abi.specs.Reply.{orElse, rowOrElse, wordReply, costReply, pointsReply, drawReply, costFrom, markOf, matchReply, optionReply, numberReply, productReply, residualReply, tokenReply, formulaReply, ruleReply};
+ghost use Rattle.simjaldek_abi.specs.Reply.{orElse, rowOrElse, wordReply, costReply, pointsReply, drawReply, costFrom, markOf, matchReply, optionReply, numberReply, productReply, residualReply, tokenReply, formulaReply, ruleReply, logOf, logState, logReply};
 ghost use Rattle.simjaldek.specs.Beside.{Indexed, Listed, BankReplied, Texted};
 
 // `search_product::product_search`: kind 0 nothing, 1 the atoms a and b, 2 the atom a and the pair b, the cheapest product. Refuses 2, 4, 5, 6, 7, 8.
@@ -325,6 +329,50 @@ pub extern "C" fn simjaldek_run_rule(
         refusal: x.refusal,
         state: after.past,
     }
+}
+
+// `log_run::open_log`: the log of a new sounding, without a close and with fresh windows.
+#[no_mangle]
+pub extern "C" fn simjaldek_open_log(log: LogState) -> LogState
+    ensures { λ r. ⌜ r ≡ logState (opened (logOf log)) ⌝ }
+{
+    replies::log_state(log_run::open_log(replies::log_of(log)))
+}
+
+// `log_run::run_log`: of rule i are the values at place i, and the opcodes and operands from place 64 i on. Refuses 1, 2, 4, 6 for a formula of any rule, 10 for a window that isn't 1 to 64 or
+// an m that isn't 1 to the window, and 11 for no rule, more than eight, a rank that isn't 1 to 8 or two equal ranks.
+#[no_mangle]
+pub extern "C" fn simjaldek_run_log(
+    log: LogState,
+    rule_count: usize,
+    ranks: &[u32],
+    ms: &[u32],
+    windows: &[u32],
+    token_counts: &[u32],
+    ops: &[u8],
+    operands: &[u64],
+    nv: u32,
+    w: u32,
+    n: usize,
+    records: &[u64],
+) -> LogReply
+    ensures { λ r. ⌜ r ≡ logReply log (logged nv w (rulesIn «rule_count» (now (ranks .entry)) (now (ms .entry)) (now (windows .entry)) (now («token_counts» .entry)) (now (ops .entry)) (now (operands .entry))) (logOf log) n (now (records .entry))) ⌝ }
+{
+    let x = log_run::run_log(
+        replies::log_of(log),
+        rule_count,
+        ranks,
+        ms,
+        windows,
+        token_counts,
+        ops,
+        operands,
+        nv,
+        w,
+        n,
+        records,
+    );
+    replies::of_log(log, x)
 }
 
 // `probe_points::make_probe_points`. Refuses 1, 2.

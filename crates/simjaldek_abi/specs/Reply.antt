@@ -1,8 +1,9 @@
 -- The answers of the calls as structs of numbers, for callers through the C interface. Assumes nothing.
-use mathlib.Core.Bool.{Bool, true, false, cond}
+use mathlib.Core.Bool.{Bool, true, false, not, cond}
 use mathlib.Core.List.{List, map}
 use mathlib.Core.Option.{Option, none, some}
 use Prim.Native.Nat.{ℕ}
+use lib.Dec.{eqb}
 use lib.ListN.{replicate}
 use Rattle.limits.specs.Refusal.{unlessRefused, Outcome, refused, answer}
 use Rattle.row_gates.specs.declared.Gate.{Gate}
@@ -17,6 +18,8 @@ use Rattle.probe_points.specs.declared.Point.{Point}
 use Rattle.probe_points.specs.declared.Points.{Points}
 use Rattle.load_draw.specs.declared.DrawnFormula.{DrawnFormula}
 use Rattle.rule_run.specs.declared.RuleAnswer.{RuleAnswer}
+use Rattle.log_run.specs.declared.Log.{Log}
+use Rattle.log_run.specs.declared.LogAnswer.{LogAnswer}
 use Rattle.search_product_trial.specs.Trying.{Product}
 use Rattle.search_residual_trial.specs.Trying.{Completion}
 use Rattle.index.specs.Build.{Summary}
@@ -32,6 +35,8 @@ use Rattle.simjaldek_abi.specs.declared.TokenReply.{TokenReply}
 use Rattle.simjaldek_abi.specs.declared.TextReply.{TextReply}
 use Rattle.simjaldek_abi.specs.declared.FormulaReply.{FormulaReply}
 use Rattle.simjaldek_abi.specs.declared.RuleReply.{RuleReply}
+use Rattle.simjaldek_abi.specs.declared.LogState.{LogState}
+use Rattle.simjaldek_abi.specs.declared.LogReply.{LogReply}
 
 -- 01, Turned back: the least applicable number counts. A number found before the call, else what the call answers
 abbrev pub orElse : {A : Type 0} → ℕ → Outcome A → Outcome A
@@ -150,6 +155,29 @@ formulaReply x = record { refusal = x .refusal; count = x .count; state = x .sta
 -- 02, 2.6: the state handed back
 abbrev pub ruleReply : RuleAnswer → RuleReply
 ruleReply x = record { refusal = x .refusal; state = x .state .past }
+
+-- 02, 2.7: a log out of its numbers: a sounding is open exactly if `open` isn't 0
+abbrev pub logOf : LogState → Log
+logOf s = record {
+  begun = not (eqb (s .«open») 0);
+  shown = record { number = s .number; close = s .«closed_at»; rank = s .rank; later = s .later };
+  windows = s .windows;
+}
+
+-- a log by its numbers, `open` 1 or 0
+abbrev pub logState : Log → LogState
+logState l = record {
+  «open» = markOf (l .begun);
+  rank = l .shown .rank;
+  number = l .shown .number;
+  «closed_at» = l .shown .close;
+  later = l .shown .later;
+  windows = l .windows;
+}
+
+-- 02, 2.7: the log handed back; beside a refusal as it was lent
+abbrev pub logReply : LogState → LogAnswer → LogReply
+logReply lent x = record { refusal = x .refusal; log = unlessRefused (x .refusal) (logState (x .log)) lent }
 
 -- how long the text is that a call wrote, and the reply of a refusal
 abbrev pub textReply : Outcome ℕ → TextReply

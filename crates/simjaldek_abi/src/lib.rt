@@ -92,3 +92,22 @@ pub struct RuleReply {
     pub refusal: u32,
     pub state: u64,
 }
+
+// The closing log of a station's soundings: whether one is open (0 for no, any other number for yes), the rank that closed it (0 for none), the number of its last record, the number of the record
+// that closed it (0 for none), how many later records had a firing, and what each rule's window has seen.
+#[repr(C)]
+pub struct LogState {
+    pub open: u32,
+    pub rank: u32,
+    pub number: u64,
+    pub closed_at: u64,
+    pub later: u64,
+    pub windows: [u64; 8],
+}
+
+// The log after a run's records, `open` 0 or 1; as it was beside a refusal, bit for bit.
+#[repr(C)]
+pub struct LogReply {
+    pub refusal: u32,
+    pub log: LogState,
+}

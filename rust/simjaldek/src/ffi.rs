@@ -94,7 +94,8 @@ pub struct RuleReply {
     pub state: u64,
 }
 
-/// The closing log of a station's soundings.
+/// The closing log of a station's soundings: whether one is open (0 for no, any other number for yes), the rank that closed it (0 for none), the number of its last record, the number of the record
+/// that closed it (0 for none), how many later records had a firing, and what each rule's window has seen.
 #[repr(C)]
 pub struct LogState {
     pub open: u32,
@@ -105,7 +106,7 @@ pub struct LogState {
     pub windows: [u64; 8],
 }
 
-/// The log after a run's records; as it was beside a refusal.
+/// The log after a run's records, `open` 0 or 1; as it was beside a refusal, bit for bit.
 #[repr(C)]
 pub struct LogReply {
     pub refusal: u32,

@@ -1,4 +1,6 @@
 // The calls' answers as replies: an enum's case as a number beside its values; rows, points and tokens by their words. A refusal has zeros beside it.
+use crate::LogReply;
+use crate::LogState;
 use crate::PointWords;
 use crate::Reply;
 use crate::ResidualReply;
@@ -11,6 +13,9 @@ use bank_lookup::FoundRow;
 use expr::Token;
 use expr_eval::Value;
 use index::IndexAnswer;
+use log_run::Log;
+use log_run::LogAnswer;
+use log_run::Shown;
 use probe_points::POINT_WORDS;
 use probe_points::POINTS;
 use probe_points::Point;
@@ -31,7 +36,7 @@ ghost use Rattle.index.specs.Build.{indexSays};
 ghost use Rattle.search_product.specs.Answer.{productSays};
 ghost use Rattle.search_residual.specs.Answer.{residualSays};
 ghost use Rattle.simjaldek_abi.specs.Slices.{rowIn, twoShort, gateRefusal};
-ghost use Rattle.simjaldek_abi.specs.Reply.{refusedReply, reply, markOf, numberReply, indexReply, productReply, refusedResidual, completed, residualReply, optionReply, matchReply, wordReply, rowReply, refusedRow, pointWords, gateCall, rowOrElse, tokenParts, tokenReply};
+ghost use Rattle.simjaldek_abi.specs.Reply.{refusedReply, reply, markOf, numberReply, indexReply, productReply, refusedResidual, completed, residualReply, optionReply, matchReply, wordReply, rowReply, refusedRow, pointWords, gateCall, rowOrElse, tokenParts, tokenReply, logOf, logState, logReply};
 
 // A reply that is only a refusal.
 pub fn refused(refusal: u32) -> Reply
@@ -237,6 +242,55 @@ pub fn of_token(t: Token) -> TokenReply
         Token::Not => token(7, 0),
         Token::Neg => token(8, 0),
         Token::Bad => token(255, 0),
+    }
+}
+
+// A log out of its numbers: one is open where `open` isn't 0.
+pub fn log_of(log: LogState) -> Log
+    ensures { λ r. ⌜ r ≡ logOf log ⌝ }
+{
+    let windows = log.windows;
+    Log {
+        begun: log.open != 0,
+        shown: Shown {
+            number: log.number,
+            close: log.closed_at,
+            rank: log.rank,
+            later: log.later,
+        },
+        windows,
+    }
+}
+
+// A log by its numbers: `open` is 1 or 0.
+pub fn log_state(log: Log) -> LogState
+    ensures { λ r. ⌜ r ≡ logState log ⌝ }
+{
+    let shown = log.shown;
+    let windows = log.windows;
+    LogState {
+        open: mark_of(log.begun),
+        rank: shown.rank,
+        number: shown.number,
+        closed_at: shown.close,
+        later: shown.later,
+        windows,
+    }
+}
+
+// Beside a refusal the log as it was lent.
+pub fn of_log(lent: LogState, x: LogAnswer) -> LogReply
+    ensures { λ r. ⌜ r ≡ logReply lent x ⌝ }
+{
+    if x.refusal != 0 {
+        return LogReply {
+            refusal: x.refusal,
+            log: lent,
+        };
+    }
+    LogReply {
+        refusal: 0,
+        log: log_state(x.log),
     }
 }
 
