@@ -18,7 +18,7 @@ use Rattle.expr.proofs.Tokens.{tokens-length}
 use Rattle.expr.proofs.Machine.{passed as formula-passed}
 use Rattle.rule_run.specs.declared.RuleAnswer.{RuleAnswer}
 use Rattle.rule_run.specs.Window.{Ran, ran, runRefusal}
-use Rattle.log_rules.specs.Rules.{Rule, ruleIn, badFormula, badRange}
+use Rattle.log_rules.specs.Rules.{Rule, ruleIn, badFormula}
 use Rattle.log_rules.specs.Firing.{ruleMade}
 use Rattle.log_rules.specs.Steps.{LendsAt, ruleRefusal, ranWithin, pastAt, firesOn}
 use Rattle.log_rules.proofs.Singles.{Sound, fed-state, fed-answer}

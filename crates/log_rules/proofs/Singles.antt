@@ -2,30 +2,30 @@
 use mathlib.Core.Path.{_≡_, refl, sym, ap, ap₂, _∙_, subst}
 use mathlib.Core.Logic.{inl, inr}
 use mathlib.Core.Bool.{Bool, true, false, cond}
-use mathlib.Core.List.{List, [], _∷_, _++_, map, append-assoc, append-nil}
+use mathlib.Core.List.{List, [], _∷_, _++_, append-assoc, append-nil}
 use Prim.Native.Nat.{ℕ, zero, suc, _+_, _*_, _^_, _≤_, _<_}
-use native.Mathlib.Nat.{mul-one, mul-suc, mul-zero, zero-add, add-zero}
+use native.Mathlib.Nat.{mul-suc, mul-zero, zero-add, add-zero}
 use native.Mathlib.Numerals.{add-one}
 use native.Mathlib.Omega.{arith}
-use borrow.Author.Tests.{le-ltb, eqb-true, not-false}
-use lib.Dec.{ltb, eqb}
-use lib.ListN.{length, getD, take, drop, length-append, List·getD-append}
-use lib.Seq.{take-all, take-at, take-take, take-add, getD-take, getD-at, length-take-le}
+use borrow.Author.Tests.{le-ltb, not-false}
+use lib.Dec.{eqb}
+use lib.ListN.{length, getD, take, length-append, List·getD-append}
+use lib.Seq.{take-all, take-add, getD-take, getD-at}
 use Rattle.arrays.specs.Lists.{countUp}
 use Rattle.arrays.specs.Parts.{partAt}
 use Rattle.arrays.proofs.Lists.{getD-map, getD-count, length-count}
 use Rattle.arrays.proofs.Parts.{length-part, part-within}
-use Rattle.limits.specs.Refusal.{unlessRefused, badCount, badWidth}
+use Rattle.limits.specs.Refusal.{badCount, badWidth}
 use Rattle.limits.proofs.Refusals.{passed, refused-later, or-later, unless-not, le-or-lt}
 use Rattle.expr.specs.Formula.{tokens}
 use Rattle.expr.specs.Answers.{tooShort}
 use Rattle.expr.proofs.Tokens.{tokens-length}
 use Rattle.expr.proofs.Machine.{passed as formula-passed}
 use Rattle.rule_run.specs.declared.RuleState.{RuleState}
-use Rattle.rule_run.specs.Window.{answersTo, tooFew, runRefusal}
-use Rattle.rule_run.specs.Facts.{Call, empty, made, taken, stateOver, answersOver, recordsOver, takenOver, uncut, freshCount, firesAt}
+use Rattle.rule_run.specs.Window.{answersTo, runRefusal}
+use Rattle.rule_run.specs.Facts.{Call, taken, stateOver, answersOver, recordsOver, takenOver, uncut, firesAt}
 use Rattle.rule_run.proofs.Runs.{freshly-counted, divided-anywhere, appended}
-use Rattle.log_rules.specs.Rules.{Rule, badFormula, badRange}
+use Rattle.log_rules.specs.Rules.{Rule, badFormula}
 use Rattle.log_rules.specs.Firing.{alone, ruleMade, fires, seen}
 use Rattle.log_rules.specs.Steps.{ruleRefusal, pastAt, firesOn}
 

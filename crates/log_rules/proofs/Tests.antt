@@ -1,5 +1,5 @@
 -- Laws of "somewhere below n", of refusals over several rules and of the least rank. Assumes nothing.
-use mathlib.Core.Path.{_≡_, refl, sym, ap, _∙_, subst}
+use mathlib.Core.Path.{_≡_, refl, sym, ap, _∙_}
 use mathlib.Core.Logic.{_⊎_, inl, inr}
 use mathlib.Core.Bool.{Bool, true, false, cond, _||_}
 use mathlib.Core.List.{List}
@@ -12,7 +12,7 @@ use lib.ListN.{length, getD}
 use Rattle.arrays.proofs.Lists.{bool-cases}
 use Rattle.limits.specs.Refusal.{refuse, outsideOf, badCount, badWidth}
 use Rattle.limits.proofs.Refusals.{true-not-false, or-here, or-later, neither, passed, within, le-or-lt, refused-here, refused-later, parts-few}
-use Rattle.log_rules.specs.Rules.{Rule, Rules, rankOf, ruleAt, anyBelow, badFormula, badRange, sameRank, badRanks, shortRules, logRefusal}
+use Rattle.log_rules.specs.Rules.{Rules, rankOf, ruleAt, anyBelow, badFormula, badRange, sameRank, badRanks, shortRules, logRefusal}
 use Rattle.log_rules.specs.Firing.{noRank, lesser, leastRank}
 use Rattle.log_rules.specs.Steps.{formulasRefusal, rulesRefusal, lentRefusal, ruleRefusal, leastNumber, Lends, Ranked}
 

@@ -1,7 +1,7 @@
 -- What the log shows of a sounding, and that it is closed once. Assumes nothing.
 use mathlib.Core.Path.{_≡_, refl, sym, ap, ap₂, _∙_, subst}
 use mathlib.Core.Logic.{_⊎_, inl, inr}
-use mathlib.Core.Bool.{Bool, true, false, not, cond, _&&_}
+use mathlib.Core.Bool.{Bool, true, false, cond, _&&_}
 use mathlib.Core.List.{List, [], _∷_, _++_}
 use Prim.Native.Nat.{ℕ, zero, suc, _+_, _-_, _*_, _^_, _≤_, _<_}
 use native.Mathlib.Nat.{eq-zero-or-pos, add-zero, zero-add}
@@ -9,27 +9,26 @@ use native.Mathlib.Numerals.{add-one}
 use native.Mathlib.Omega.{arith}
 use borrow.Author.Tests.{ltb-true, ltb-false, lt-ltb, le-ltb, eq-eqb, ne-eqb}
 use lib.Dec.{ltb, eqb}
-use lib.ListN.{length, getD, take, replicate}
+use lib.ListN.{length, getD}
 use lib.Seq.{take-all}
 use Rattle.arrays.specs.Parts.{partAt}
 use Rattle.arrays.proofs.Lists.{bool-cases}
 use Rattle.arrays.proofs.Parts.{length-part, part-within}
-use Rattle.limits.specs.Refusal.{unlessRefused}
 use Rattle.limits.proofs.Refusals.{true-not-false, le-or-lt, and-both, inside, unless-refused, unless-not}
 use Rattle.rule_run.specs.Window.{sumBelow}
 use Rattle.rule_run.proofs.Counting.{sum-same}
-use Rattle.log_rules.specs.Rules.{Rules, rankOf, ruleAt, anyBelow, badRanks, logRefusal}
-use Rattle.log_rules.specs.Firing.{noRank, lesser, leastRank}
-use Rattle.log_rules.specs.Steps.{Lends, Ranked, firesOn, rankAt}
-use Rattle.log_rules.proofs.Tests.{any-at, any-none, none-below, any-first, refusal-none, lends, ranked, rules-ranks, rules-formulas, number-each, ranks-differ, rank-same, rank-least, LeastOf, lesser-left, lesser-right}
+use Rattle.log_rules.specs.Rules.{Rules, rankOf, ruleAt, badRanks, logRefusal}
+use Rattle.log_rules.specs.Firing.{noRank, leastRank}
+use Rattle.log_rules.specs.Steps.{Lends, firesOn, rankAt}
+use Rattle.log_rules.proofs.Tests.{any-at, any-none, none-below, any-first, refusal-none, lends, ranked, rules-ranks, rules-formulas, number-each, ranks-differ, rank-same, rank-least, lesser-left, lesser-right}
 use Rattle.log_rules.proofs.Singles.{Sound, fires-fresh}
 use Rattle.log_run.specs.declared.Shown.{Shown}
 use Rattle.log_run.specs.declared.Log.{Log}
 use Rattle.log_run.specs.Step.{capped, noted, rankOn, stepped, logAfter, nothingShown, freshWindows, emptyLog, opened}
 use Rattle.log_run.specs.Steps.{notedOver}
-use Rattle.log_run.specs.Facts.{Event, Event.opening, Event.feeding, Sounding, noSounding, newSounding, goesOn, logOn, logOver, soundingOver, firesIn, someFires, everFires, First, laterFirings, Least, Shows, ShowsClose, Fires, FirstFires, Unaltered, sameClose, closeChanges, ClosedOnce, SmallerRank}
+use Rattle.log_run.specs.Facts.{Event, Event.opening, Event.feeding, Sounding, noSounding, newSounding, goesOn, logOn, logOver, soundingOver, firesIn, someFires, everFires, laterFirings, Least, Shows, ShowsClose, FirstFires, Unaltered, sameClose, closeChanges, ClosedOnce, SmallerRank}
 use Rattle.log_run.proofs.Stepping.{capped-low, capped-high, noted-none, noted-close, noted-later, step-shut, step-open, after-begun, after-shown, all-same}
-use Rattle.log_run.proofs.Soundings.{logAt, Kept, kept-none, kept-new, kept-over}
+use Rattle.log_run.proofs.Soundings.{Kept, kept-none, kept-new, kept-over}
 
 -- ---- counting up to 2^64 - 1
 capped-more : (m : ℕ) → capped (suc (capped m)) ≡ capped (suc m)

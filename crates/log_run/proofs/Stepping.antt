@@ -1,8 +1,8 @@
 -- Records taken one after the other, some at a time. Assumes nothing.
-use mathlib.Core.Path.{_≡_, refl, sym, ap, ap₂, _∙_, subst}
+use mathlib.Core.Path.{_≡_, refl, sym, ap, ap₂, _∙_}
 use mathlib.Core.Logic.{_⊎_, inl, inr}
 use mathlib.Core.Bool.{Bool, true, false, not, cond, _&&_}
-use mathlib.Core.List.{List, [], _∷_, map}
+use mathlib.Core.List.{List, map}
 use Prim.Native.Nat.{ℕ, zero, suc, _+_, _-_, _*_, _^_, _≤_, _<_}
 use native.Mathlib.Nat.{eq-zero-or-pos, mul-add, mul-le-mul-left, add-zero, add-suc}
 use native.Mathlib.Numerals.{add-one}
@@ -18,7 +18,7 @@ use Rattle.arrays.proofs.Parts.{part-below}
 use Rattle.limits.specs.Refusal.{unlessRefused}
 use Rattle.limits.proofs.Refusals.{true-not-false, and-both, unless-refused, unless-not}
 use Rattle.log_rules.specs.Rules.{Rules, ruleAt, badRanks, logRefusal}
-use Rattle.log_rules.specs.Firing.{noRank, fires, seen, leastRank}
+use Rattle.log_rules.specs.Firing.{noRank, fires, seen}
 use Rattle.log_rules.specs.Steps.{formulasRefusal, rulesRefusal, lentRefusal, Lends, pastAt, firesOn, rankAt, windowAt}
 use Rattle.log_rules.proofs.Tests.{rank-same, refusal-lent, refusal-rules, rules-formulas, rules-ranks}
 use Rattle.log_run.specs.declared.Shown.{Shown}

@@ -1,5 +1,5 @@
 -- `log_run::inner::one_more` meets its contract. Assumes nothing.
-use mathlib.Core.Path.{sym, ap, _∙_}
+use mathlib.Core.Path.{sym, _∙_}
 use Prim.Native.Nat.{suc}
 use native.Mathlib.Numerals.{add-one}
 use Rattle.log_run.proofs.Stepping.{capped-low, capped-high}
