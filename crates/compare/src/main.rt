@@ -72,6 +72,7 @@ fn line_same(line: &[u64]) -> bool {
         24 => compare_loads::draw_same(line),
         25 => compare_texts::head_same(line),
         26 => compare_rules::rule_same(line),
+        27 => compare_logs::log_same(line),
         _ => false,
     }
 }
