@@ -60,19 +60,18 @@ module _ (nv w : ℕ) (rules : Rules) (records seen : List ℕ) (n : ℕ) where
     pub went-more :
         i < length after → rank ≡ rankOf rules i
         → x ≡ ruleRefusal nv (ruleAt rules i)
-        → (x ≡ 0 → past ≡ pastAt nv w (ruleAt rules i) records (getD seen i 0) n)
-        → (x ≡ 0 → (k : ℕ) → k < n → eqb (getD answers k 0) 1 ≡ firesOn nv w (ruleAt rules i) records (getD seen i 0) k)
+        → (x ≡ 0 → past ≡ pastAt nv w (ruleAt rules i) records (getD after i 0) n)
+        → (x ≡ 0 → (k : ℕ) → k < n → eqb (getD answers k 0) 1 ≡ firesOn nv w (ruleAt rules i) records (getD after i 0) k)
         → ((k : ℕ) → k < n → getD fired′ k 0 ≡ cond (eqb (getD answers k 0) 1) (lesser (getD fired k 0) rank) (getD fired k 0))
         → refusal′ ≡ leastNumber refusal x
         → Went i refusal after fired → Went (i + 1) refusal′ (set after i past) fired′
     unfolding leastRank
     went-more h er ex ep ea eo el g = record {
       number = number;
-      pasts = λ e.
-          let m = g .pasts (zeros e .0) in
-          mapped-more (λ (t s : ℕ). pastAt nv w (ruleAt rules t) records s n) seen after i past h (ep (zeros e .1) ∙ ap (λ (s : ℕ). pastAt nv w (ruleAt rules i) records s n) (sym (m .rest i (omega arith)))) m;
+      pasts = λ e. mapped-more (λ (t s : ℕ). pastAt nv w (ruleAt rules t) records s n) seen after i past h (ep (zeros e .1)) (g .pasts (zeros e .0));
       ranks = λ e k l.
-          let test = ea (zeros e .1) k l in
+          let stays : getD after i 0 ≡ getD seen i 0 = g .pasts (zeros e .0) .rest i (omega arith) in
+          let test = ea (zeros e .1) k l ∙ ap (λ (s : ℕ). firesOn nv w (ruleAt rules i) records s k) stays in
           let least = g .ranks (zeros e .0) k l in
           eo k l
           ∙ (λ j. cond (test j) (lesser (least j) (er j)) (least j))

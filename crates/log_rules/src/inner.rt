@@ -16,12 +16,6 @@ ghost use Rattle.log_rules.specs.Steps.{formulasRefusal, rulesRefusal, l
 // More than every rank: no rule fires.
 pub const NO_RANK: u8 = 9;
 
-// What the rules say to a run of records: the least number by which one is refused, 0 for none, and their windows after it.
-pub struct Fed {
-    pub refusal: u32,
-    pub seen: [u64; 8],
-}
-
 // ---- refusals
 
 // Whether an array is too short for the rules claimed: refusal 4.
@@ -285,10 +279,12 @@ fn offer(fired: &mut [u8], answers: &[u8], rank: u8, n: usize)
     }
 }
 
-// All rules over n records: in `fired`, which has nothing but NO_RANK, the least rank that fires on each.
+// All rules over n records: in `fired`, which has nothing but NO_RANK, the least rank that fires on each, and in `seen` their windows after
+// them. The least number by which one is refused, 0 for none.
 pub fn feed_rules(
     fired: &mut [u8],
     answers: &mut [u8],
+    seen: &mut [u64],
     count: usize,
     ranks: &[u32],
     ms: &[u32],
@@ -298,19 +294,16 @@ pub fn feed_rules(
     operands: &[u64],
     nv: u32,
     w: u32,
-    seen: [u64; 8],
     n: usize,
     records: &[u64],
-) -> Fed
-    requires { ⌜ Lends nv w (rulesIn count (now ranks) (now ms) (now windows) (now «token_counts») (now ops) (now operands)) n (now records) × Ranked (rulesIn count (now ranks) (now ms) (now windows) (now «token_counts») (now ops) (now operands)) ⌝ }
+) -> u32
+    requires { ⌜ Lends nv w (rulesIn count (now ranks) (now ms) (now windows) (now «token_counts») (now ops) (now operands)) n (now records) × (Ranked (rulesIn count (now ranks) (now ms) (now windows) (now «token_counts») (now ops) (now operands)) × (length (now seen) ≡ 8)) ⌝ }
     requires { ⌜ (n ≤ length (now answers)) × ((n ≤ length (now fired)) × ((k : ℕ) → k < n → getD (now fired) k 0 ≡ noRank)) ⌝ }
-    ensures { λ r. ⌜ r .refusal ≡ formulasRefusal nv (rulesIn count (now (ranks .entry)) (now (ms .entry)) (now (windows .entry)) (now («token_counts» .entry)) (now (ops .entry)) (now (operands .entry))) count ⌝ }
-    ensures { λ r. ⌜ length (r .seen) ≡ 8 ⌝ }
-    ensures { λ r. ⌜ (r .refusal ≡ 0 → (i : ℕ) → i < 8 → getD (r .seen) i 0 ≡ windowAt nv w (rulesIn count (now (ranks .entry)) (now (ms .entry)) (now (windows .entry)) (now («token_counts» .entry)) (now (ops .entry)) (now (operands .entry))) (now (records .entry)) seen count n i) ⌝ }
-    ensures { λ r. ⌜ (r .refusal ≡ 0 → (k : ℕ) → k < n → getD (now (fired .exit)) k 0 ≡ rankAt nv w (rulesIn count (now (ranks .entry)) (now (ms .entry)) (now (windows .entry)) (now («token_counts» .entry)) (now (ops .entry)) (now (operands .entry))) (now (records .entry)) seen count k) ⌝ }
+    ensures { λ r. ⌜ r ≡ formulasRefusal nv (rulesIn count (now (ranks .entry)) (now (ms .entry)) (now (windows .entry)) (now («token_counts» .entry)) (now (ops .entry)) (now (operands .entry))) count ⌝ }
+    ensures { λ r. ⌜ (r ≡ 0 → (i : ℕ) → getD (now (seen .exit)) i 0 ≡ windowAt nv w (rulesIn count (now (ranks .entry)) (now (ms .entry)) (now (windows .entry)) (now («token_counts» .entry)) (now (ops .entry)) (now (operands .entry))) (now (records .entry)) (now (seen .entry)) count n i) ⌝ }
+    ensures { λ r. ⌜ (r ≡ 0 → (k : ℕ) → k < n → getD (now (fired .exit)) k 0 ≡ rankAt nv w (rulesIn count (now (ranks .entry)) (now (ms .entry)) (now (windows .entry)) (now («token_counts» .entry)) (now (ops .entry)) (now (operands .entry))) (now (records .entry)) (now (seen .entry)) count k) ⌝ }
 {
     let mut refusal: u32 = 0;
-    let mut after = seen;
     let mut i: usize = 0;
     while i < count {
         let x = ask_at(
@@ -328,13 +321,10 @@ pub fn feed_rules(
             records,
         );
         let state = x.state;
-        after[i] = state.past;
+        seen[i] = state.past;
         offer(fired, answers, ranks[i] as u8, n);
         refusal = least_number(refusal, x.refusal);
         i += 1;
     }
-    Fed {
-        refusal,
-        seen: after,
-    }
+    refusal
 }

@@ -25,7 +25,7 @@ use Rattle.log_run.specs.declared.Shown.{Shown}
 use Rattle.log_run.specs.declared.Log.{Log}
 use Rattle.log_run.specs.declared.LogAnswer.{LogAnswer}
 use Rattle.log_run.specs.Step.{capped, noted, rankOn, windowsOn, stepped, logAfter, logged}
-use Rattle.log_run.specs.Steps.{ruled, notedOver}
+use Rattle.log_run.specs.Steps.{openLog, ruled, notedOver}
 
 -- ---- what is shown
 pub capped-low : (n : ℕ) → n < 2 ^ 64 → capped n ≡ n
@@ -250,13 +250,6 @@ lends-part nv w rules n records a b h l =
       fits = omega (arith, length-take-le (nv * a + nv * b - nv * a) (drop (nv * a) records) (omega (arith, length-drop (nv * a) records, f)), f);
     }
 
--- what a part answers, where nothing is refused
-pub ruled-log : (nv w : ℕ) (rules : Rules) (l : Log) (n : ℕ) (records : List ℕ) (r : LogAnswer) → r ≡ ruled nv w rules l n records → r .refusal ≡ 0
-    → (formulasRefusal nv rules (rules .count) ≡ 0) × (r .log ≡ logAfter nv w rules records l n)
-ruled-log nv w rules l n records r e z =
-    let none : formulasRefusal nv rules (rules .count) ≡ 0 = sym (ap (λ (x : LogAnswer). x .refusal) e) ∙ z in
-    (none, ap (λ (x : LogAnswer). x .log) e ∙ unless-not (formulasRefusal nv rules (rules .count)) (logAfter nv w rules records l n) l none)
-
 -- ---- the call
 module _ (nv w : ℕ) (rules : Rules) (l : Log) (n : ℕ) (records : List ℕ) where
   -- a number that applies, and the log as it was
@@ -297,3 +290,7 @@ module _ (nv w : ℕ) (rules : Rules) (l : Log) (n : ℕ) (records : List ℕ) w
           sym (unless-not (logRefusal nv w rules n records) (logAfter nv w rules records l n) l (sym number ∙ z) ∙ stays e (rules-ranks nv rules (sym h ∙ z))) in
           λ i. record { refusal = number i; log = same i }
     ]
+
+-- a log whose sounding is open, by its parts
+pub open-is : (l : Log) → l .begun ≡ true → openLog (l .windows) (l .shown) ≡ l
+open-is l e = λ i. record { windows = l .windows; shown = l .shown; begun = sym e i }

@@ -12,12 +12,18 @@ ghost use Rattle.log_rules.specs.Rules.{rulesIn, badRanks};
 ghost use Rattle.log_rules.specs.Firing.{noRank};
 ghost use Rattle.log_rules.specs.Steps.{Lends, Ranked};
 ghost use Rattle.log_run.specs.Step.{capped, noted};
-ghost use Rattle.log_run.specs.Steps.{ruled, notedOver};
+ghost use Rattle.log_run.specs.Steps.{Takes, ruled, notedOver};
 
 // How many records go at once where there are few of them, and where there are many.
 const FEW: usize = 16;
 
 const MANY: usize = 256;
+
+// What is shown after a part of the records, and the least number by which a rule is refused, 0 for none.
+pub struct Took {
+    pub shown: Shown,
+    pub refusal: u32,
+}
 
 // ---- what is shown
 
@@ -38,23 +44,23 @@ fn note(shown: Shown, rank: u8) -> Shown
         return Shown {
             number,
             close: shown.close,
-            rank: shown.rank,
             later: shown.later,
+            rank: shown.rank,
         };
     }
     if shown.close == 0 {
         return Shown {
             number,
             close: number,
-            rank: rank as u32,
             later: shown.later, // the record that closes is no later one
+            rank: rank as u32,
         };
     }
     Shown {
         number,
         close: shown.close,
-        rank: shown.rank, // whatever rank fires now
         later,
+        rank: shown.rank, // whatever rank fires now
     }
 }
 
@@ -88,11 +94,12 @@ pub fn feeds(begun: bool, count: usize, ranks: &[u32], n: usize) -> bool
     !log_rules::inner::bad_ranks(count, ranks)
 }
 
-// n records of an open sounding, with a place for each in `fired` and `answers`.
+// n records of an open sounding, with a place for each in `fired` and `answers`; `seen` are the windows.
 fn run_over(
     fired: &mut [u8],
     answers: &mut [u8],
-    log: Log,
+    seen: &mut [u64],
+    shown: Shown,
     count: usize,
     ranks: &[u32],
     ms: &[u32],
@@ -104,15 +111,15 @@ fn run_over(
     w: u32,
     n: usize,
     records: &[u64],
-) -> LogAnswer
-    requires { ⌜ Lends nv w (rulesIn count (now ranks) (now ms) (now windows) (now «token_counts») (now ops) (now operands)) n (now records) × (Ranked (rulesIn count (now ranks) (now ms) (now windows) (now «token_counts») (now ops) (now operands)) × (log .begun ≡ true)) ⌝ }
+) -> Took
+    requires { ⌜ Lends nv w (rulesIn count (now ranks) (now ms) (now windows) (now «token_counts») (now ops) (now operands)) n (now records) × (Ranked (rulesIn count (now ranks) (now ms) (now windows) (now «token_counts») (now ops) (now operands)) × (length (now seen) ≡ 8)) ⌝ }
     requires { ⌜ (1 ≤ n) × ((n ≤ length (now answers)) × ((n ≤ length (now fired)) × ((k : ℕ) → k < n → getD (now fired) k 0 ≡ noRank))) ⌝ }
-    ensures { λ r. ⌜ r ≡ ruled nv w (rulesIn count (now (ranks .entry)) (now (ms .entry)) (now (windows .entry)) (now («token_counts» .entry)) (now (ops .entry)) (now (operands .entry))) log n (now (records .entry)) ⌝ }
+    ensures { λ r. ⌜ Takes nv w (rulesIn count (now (ranks .entry)) (now (ms .entry)) (now (windows .entry)) (now («token_counts» .entry)) (now (ops .entry)) (now (operands .entry))) (now (records .entry)) n (now (seen .entry)) shown (now (seen .exit)) r ⌝ }
 {
-    let seen = log.windows;
-    let fed = log_rules::inner::feed_rules(
+    let refusal = log_rules::inner::feed_rules(
         fired,
         answers,
+        seen,
         count,
         ranks,
         ms,
@@ -122,31 +129,20 @@ fn run_over(
         operands,
         nv,
         w,
-        seen,
         n,
         records,
     );
-    if fed.refusal != 0 {
-        return LogAnswer {
-            refusal: fed.refusal,
-            log,
-        };
-    }
-    let shown = note_all(fired, log.shown, n);
-    let after = fed.seen;
-    LogAnswer {
-        refusal: 0,
-        log: Log {
-            begun: true,
-            shown,
-            windows: after,
-        },
+    let after = note_all(fired, shown, n);
+    Took {
+        shown: after,
+        refusal,
     }
 }
 
 // At most sixteen records.
 fn run_few(
-    log: Log,
+    seen: &mut [u64],
+    shown: Shown,
     count: usize,
     ranks: &[u32],
     ms: &[u32],
@@ -158,17 +154,18 @@ fn run_few(
     w: u32,
     n: usize,
     records: &[u64],
-) -> LogAnswer
-    requires { ⌜ Lends nv w (rulesIn count (now ranks) (now ms) (now windows) (now «token_counts») (now ops) (now operands)) n (now records) × (Ranked (rulesIn count (now ranks) (now ms) (now windows) (now «token_counts») (now ops) (now operands)) × (log .begun ≡ true)) ⌝ }
+) -> Took
+    requires { ⌜ Lends nv w (rulesIn count (now ranks) (now ms) (now windows) (now «token_counts») (now ops) (now operands)) n (now records) × (Ranked (rulesIn count (now ranks) (now ms) (now windows) (now «token_counts») (now ops) (now operands)) × (length (now seen) ≡ 8)) ⌝ }
     requires { ⌜ (1 ≤ n) × (n ≤ 16) ⌝ }
-    ensures { λ r. ⌜ r ≡ ruled nv w (rulesIn count (now (ranks .entry)) (now (ms .entry)) (now (windows .entry)) (now («token_counts» .entry)) (now (ops .entry)) (now (operands .entry))) log n (now (records .entry)) ⌝ }
+    ensures { λ r. ⌜ Takes nv w (rulesIn count (now (ranks .entry)) (now (ms .entry)) (now (windows .entry)) (now («token_counts» .entry)) (now (ops .entry)) (now (operands .entry))) (now (records .entry)) n (now (seen .entry)) shown (now (seen .exit)) r ⌝ }
 {
     let mut fired = [NO_RANK; FEW];
     let mut answers = [0u8; FEW];
     run_over(
         &mut fired,
         &mut answers,
-        log,
+        seen,
+        shown,
         count,
         ranks,
         ms,
@@ -185,7 +182,8 @@ fn run_few(
 
 // At most 256.
 fn run_many(
-    log: Log,
+    seen: &mut [u64],
+    shown: Shown,
     count: usize,
     ranks: &[u32],
     ms: &[u32],
@@ -197,17 +195,18 @@ fn run_many(
     w: u32,
     n: usize,
     records: &[u64],
-) -> LogAnswer
-    requires { ⌜ Lends nv w (rulesIn count (now ranks) (now ms) (now windows) (now «token_counts») (now ops) (now operands)) n (now records) × (Ranked (rulesIn count (now ranks) (now ms) (now windows) (now «token_counts») (now ops) (now operands)) × (log .begun ≡ true)) ⌝ }
+) -> Took
+    requires { ⌜ Lends nv w (rulesIn count (now ranks) (now ms) (now windows) (now «token_counts») (now ops) (now operands)) n (now records) × (Ranked (rulesIn count (now ranks) (now ms) (now windows) (now «token_counts») (now ops) (now operands)) × (length (now seen) ≡ 8)) ⌝ }
     requires { ⌜ (1 ≤ n) × (n ≤ 256) ⌝ }
-    ensures { λ r. ⌜ r ≡ ruled nv w (rulesIn count (now (ranks .entry)) (now (ms .entry)) (now (windows .entry)) (now («token_counts» .entry)) (now (ops .entry)) (now (operands .entry))) log n (now (records .entry)) ⌝ }
+    ensures { λ r. ⌜ Takes nv w (rulesIn count (now (ranks .entry)) (now (ms .entry)) (now (windows .entry)) (now («token_counts» .entry)) (now (ops .entry)) (now (operands .entry))) (now (records .entry)) n (now (seen .entry)) shown (now (seen .exit)) r ⌝ }
 {
     let mut fired = [NO_RANK; MANY];
     let mut answers = [0u8; MANY];
     run_over(
         &mut fired,
         &mut answers,
-        log,
+        seen,
+        shown,
         count,
         ranks,
         ms,
@@ -230,7 +229,114 @@ fn at_once(left: usize) -> usize
     if left < MANY { left } else { MANY }
 }
 
-// All records, some of them at a time.
+// All records, part after part, as long as no rule is refused.
+fn run_parts(
+    seen: &mut [u64],
+    shown: Shown,
+    count: usize,
+    ranks: &[u32],
+    ms: &[u32],
+    windows: &[u32],
+    token_counts: &[u32],
+    ops: &[u8],
+    operands: &[u64],
+    nv: u32,
+    w: u32,
+    n: usize,
+    records: &[u64],
+) -> Took
+    requires { ⌜ Lends nv w (rulesIn count (now ranks) (now ms) (now windows) (now «token_counts») (now ops) (now operands)) n (now records) × (Ranked (rulesIn count (now ranks) (now ms) (now windows) (now «token_counts») (now ops) (now operands)) × (length (now seen) ≡ 8)) ⌝ }
+    requires { ⌜ 1 ≤ n ⌝ }
+    ensures { λ r. ⌜ Takes nv w (rulesIn count (now (ranks .entry)) (now (ms .entry)) (now (windows .entry)) (now («token_counts» .entry)) (now (ops .entry)) (now (operands .entry))) (now (records .entry)) n (now (seen .entry)) shown (now (seen .exit)) r ⌝ }
+{
+    let words = nv as usize;
+    let mut now = shown;
+    let mut at: usize = 0;
+    while at < n {
+        let size = at_once(n - at);
+        let from = words * at;
+        let x = run_many(
+            seen,
+            now,
+            count,
+            ranks,
+            ms,
+            windows,
+            token_counts,
+            ops,
+            operands,
+            nv,
+            w,
+            size,
+            &records[from..from + words * size],
+        );
+        if x.refusal != 0 {
+            return x;
+        }
+        now = x.shown;
+        at += size;
+    }
+    Took {
+        shown: now,
+        refusal: 0,
+    }
+}
+
+// The same, with small buffers where there are few records.
+fn run_all(
+    seen: &mut [u64],
+    shown: Shown,
+    count: usize,
+    ranks: &[u32],
+    ms: &[u32],
+    windows: &[u32],
+    token_counts: &[u32],
+    ops: &[u8],
+    operands: &[u64],
+    nv: u32,
+    w: u32,
+    n: usize,
+    records: &[u64],
+) -> Took
+    requires { ⌜ Lends nv w (rulesIn count (now ranks) (now ms) (now windows) (now «token_counts») (now ops) (now operands)) n (now records) × (Ranked (rulesIn count (now ranks) (now ms) (now windows) (now «token_counts») (now ops) (now operands)) × (length (now seen) ≡ 8)) ⌝ }
+    requires { ⌜ 1 ≤ n ⌝ }
+    ensures { λ r. ⌜ Takes nv w (rulesIn count (now (ranks .entry)) (now (ms .entry)) (now (windows .entry)) (now («token_counts» .entry)) (now (ops .entry)) (now (operands .entry))) (now (records .entry)) n (now (seen .entry)) shown (now (seen .exit)) r ⌝ }
+{
+    if n <= FEW {
+        return run_few(
+            seen,
+            shown,
+            count,
+            ranks,
+            ms,
+            windows,
+            token_counts,
+            ops,
+            operands,
+            nv,
+            w,
+            n,
+            records,
+        );
+    }
+    run_parts(
+        seen,
+        shown,
+        count,
+        ranks,
+        ms,
+        windows,
+        token_counts,
+        ops,
+        operands,
+        nv,
+        w,
+        n,
+        records,
+    )
+}
+
+// The log after all records of an open sounding; as it was where a rule is refused.
 pub fn run(
     log: Log,
     count: usize,
@@ -249,53 +355,35 @@ pub fn run(
     requires { ⌜ 1 ≤ n ⌝ }
     ensures { λ r. ⌜ r ≡ ruled nv w (rulesIn count (now (ranks .entry)) (now (ms .entry)) (now (windows .entry)) (now («token_counts» .entry)) (now (ops .entry)) (now (operands .entry))) log n (now (records .entry)) ⌝ }
 {
-    if n <= FEW {
-        return run_few(
+    let mut seen = log.windows;
+    let x = run_all(
+        &mut seen,
+        log.shown,
+        count,
+        ranks,
+        ms,
+        windows,
+        token_counts,
+        ops,
+        operands,
+        nv,
+        w,
+        n,
+        records,
+    );
+    if x.refusal != 0 {
+        return LogAnswer {
             log,
-            count,
-            ranks,
-            ms,
-            windows,
-            token_counts,
-            ops,
-            operands,
-            nv,
-            w,
-            n,
-            records,
-        );
+            refusal: x.refusal,
+        };
     }
-    let words = nv as usize;
-    let mut now = log;
-    let mut at: usize = 0;
-    while at < n {
-        let size = at_once(n - at);
-        let from = words * at;
-        let x = run_many(
-            now,
-            count,
-            ranks,
-            ms,
-            windows,
-            token_counts,
-            ops,
-            operands,
-            nv,
-            w,
-            size,
-            &records[from..from + words * size],
-        );
-        if x.refusal != 0 {
-            return LogAnswer {
-                refusal: x.refusal,
-                log,
-            };
-        }
-        now = x.log;
-        at += size;
-    }
+    let shown = x.shown;
     LogAnswer {
+        log: Log {
+            windows: seen,
+            shown,
+            begun: true,
+        },
         refusal: 0,
-        log: now,
     }
 }

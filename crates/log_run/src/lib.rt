@@ -10,22 +10,22 @@ ghost use Rattle.log_run.specs.Step.{logged, opened};
 pub struct Shown {
     pub number: u64,
     pub close: u64,
-    pub rank: u32,
     pub later: u64,
+    pub rank: u32,
 }
 
 // Whether a sounding was opened, what is shown of it, and what the window of the rule at each place has seen (`RuleState` of rule_run).
 // Every value is a log; the empty one is false and zeros.
 pub struct Log {
-    pub begun: bool,
-    pub shown: Shown,
     pub windows: [u64; 8],
+    pub shown: Shown,
+    pub begun: bool,
 }
 
 // The log after a call's records; as it was beside a refusal.
 pub struct LogAnswer {
-    pub refusal: u32,
     pub log: Log,
+    pub refusal: u32,
 }
 
 // Starts a sounding and its windows afresh; the earlier one gets no close from then on.
@@ -33,14 +33,14 @@ pub fn open_log(log: Log) -> Log
     ensures { λ r. ⌜ r ≡ opened log ⌝ }
 {
     Log {
-        begun: true,
+        windows: [0; 8],
         shown: Shown {
             number: 0,
             close: 0,
-            rank: 0,
             later: 0,
+            rank: 0,
         },
-        windows: [0; 8],
+        begun: true,
     }
 }
 
@@ -78,7 +78,7 @@ pub fn run_log(
         records,
     );
     if refusal != 0 {
-        return LogAnswer { refusal, log };
+        return LogAnswer { log, refusal };
     }
     if inner::feeds(log.begun, rule_count, ranks, n) {
         return inner::run(
@@ -110,7 +110,7 @@ pub fn run_log(
         records,
     );
     LogAnswer {
-        refusal: number,
         log,
+        refusal: number,
     }
 }

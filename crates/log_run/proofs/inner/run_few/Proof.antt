@@ -14,12 +14,13 @@ slice-aggregate-run-over-2 : tie.Need-slice-aggregate-run-over-2
 slice-aggregate-run-over-2 c = search needs
 
 run-over-requires : tie.Need-run-over-requires
-run-over-requires c κs = let s = c .before .before .before .before .before .before .before .before .before in
-    let p = s .pre in
-    let n = s .args .n in (
-      p .0,
-      (p .1 .0, (omega (arith, p .1 .1, length-replicate {A = ℕ} 16 0), (omega (arith, p .1 .1, length-replicate {A = ℕ} 16 9), λ k l. all-same 16 9 k (omega (arith, p .1 .1))))),
-    )
+run-over-requires c κs = let p = c .before .before .before .before .before .before .before .before .before .before .before .pre in (
+  p .0,
+  (p .1 .0, (omega (arith, p .1 .1, length-replicate {A = ℕ} 16 0), (omega (arith, p .1 .1, length-replicate {A = ℕ} 16 9), λ k l. all-same 16 9 k (omega (arith, p .1 .1))))),
+)
+
+same-length : tie.Need-same-length
+same-length c = search needs
 
 returns : tie.Need-returns
 returns c = search needs
@@ -27,4 +28,9 @@ returns c = search needs
 pub run-few-spec : {M : Type 1} → statement M
 run-few-spec =
     tie.close
-    (tie.spec slice-aggregate-run-over slice-aggregate-run-over-2 run-over-requires returns)
+    (tie.spec
+    slice-aggregate-run-over
+    slice-aggregate-run-over-2
+    run-over-requires
+    same-length
+    returns)
