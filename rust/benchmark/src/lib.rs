@@ -63,11 +63,12 @@ pub enum Call {
     RuleOne,
     Log,
     LogOne,
+    LogInPlace,
 }
 
 impl Call {
     /// All calls, in the tables' order.
-    pub const ALL: [Call; 28] = [
+    pub const ALL: [Call; 29] = [
         Call::Bank,
         Call::Index,
         Call::SearchNothing,
@@ -96,6 +97,7 @@ impl Call {
         Call::RuleOne,
         Call::Log,
         Call::LogOne,
+        Call::LogInPlace,
     ];
 
     /// Its heading.
@@ -129,6 +131,7 @@ impl Call {
             Call::RuleOne => "Rule, one record a call",
             Call::Log => "Closing log over records",
             Call::LogOne => "Closing log, one record a call",
+            Call::LogInPlace => "Closing log, one record a call, the Rust in place and compiled",
         }
     }
 
@@ -137,7 +140,7 @@ impl Call {
         match self {
             Call::Bank | Call::Index => Some(0.5),
             Call::EvaluateCompiled | Call::ResidualMaps | Call::CandidatesBuckets => None,
-            Call::RuleOne => None,
+            Call::RuleOne | Call::LogInPlace => None,
             _ => Some(1.0),
         }
     }

@@ -1,5 +1,6 @@
-//! Closing logs over records. The Rust has none: its side is plain Rust over the originals' compiled evaluator, as for a rule (rules.rs), with
-//! the log in a struct that is changed in place; what is refused is tested first, once a call.
+//! Closing logs over records. The Rust has none: its side is plain Rust from the request's sentences, handed what the call is handed, the
+//! log by value and the lent tokens; what is refused is tested first, once a call. One record a call is timed also, without a bar, beside
+//! plain Rust that changes the log in place and evaluates formulas that were compiled before, as for a rule (rules.rs).
 
 use std::hint::black_box;
 use std::time::Duration;
@@ -32,15 +33,23 @@ pub fn time(plan: &Plan, num_vars: u32, width: u32, take: &mut impl FnMut(Call, 
         for (rules, told) in RULE_COUNTS {
             let station = &Station::new(watch, rules);
             for (call, count, at_once) in [(Call::Log, MANY, AT_ONCE), (Call::LogOne, SINGLES, 1)] {
-                let mut stack = Vec::new();
                 let mut ours = station.timed(count, at_once, |handed, log| handed.ours(log));
                 let mut plain = station.timed(count, at_once, |handed, log| {
-                    handed.plain(log, &mut stack);
+                    *log = handed.written(*log).expect("in range");
                 });
                 let times = alternate(plan, &mut ours, &mut plain).per(count);
-                let note = format!("{told} of {size} tokens, {count} records");
-                take(call, note, times);
+                take(
+                    call,
+                    format!("{told} of {size} tokens, {count} records"),
+                    times,
+                );
             }
+            let mut stack = Vec::new();
+            let mut ours = station.timed(SINGLES, 1, |handed, log| handed.ours(log));
+            let mut plain = station.timed(SINGLES, 1, |handed, log| handed.plain(log, &mut stack));
+            let times = alternate(plan, &mut ours, &mut plain).per(SINGLES);
+            let note = format!("{told} of {size} tokens, {SINGLES} records");
+            take(Call::LogInPlace, note, times);
         }
     }
 }
@@ -58,6 +67,7 @@ pub fn check(num_vars: u32, width: u32) {
                     station.run(&mut log, RECORDS, at_once, &mut |handed, log| {
                         let mut theirs = *log;
                         handed.plain(&mut theirs, &mut stack);
+                        assert_eq!(handed.written(*log), Some(theirs));
                         handed.ours(log);
                         assert_eq!(theirs, *log);
                     });
@@ -190,6 +200,41 @@ impl Handed<'_> {
         }
     }
 
+    /// Plain Rust of the same form: the log by value, in and back, and each formula read from the lent tokens.
+    #[inline(never)]
+    fn written(&self, mut log: LogState) -> Option<LogState> {
+        if !self.is_fit() {
+            return None;
+        }
+        if log.open == 0 {
+            return Some(log);
+        }
+        log.open = 1;
+        let records = self.records.words.chunks_exact(self.num_vars as usize);
+        for record in records.take(self.records.count) {
+            log.number = log.number.saturating_add(1);
+            let mut least = NONE;
+            for rule in 0..self.rules.count {
+                let value = evaluate(self.tokens(rule), record, self.width);
+                let history = log.windows[rule] << 1 | u64::from(value != 0);
+                log.windows[rule] = history;
+                let mask = u64::MAX >> (64 - self.rules.windows[rule]);
+                if (history & mask).count_ones() >= self.rules.ms[rule] {
+                    least = least.min(self.rules.ranks[rule]);
+                }
+            }
+            if least == NONE {
+                continue;
+            }
+            if log.closed_at == 0 {
+                (log.closed_at, log.rank) = (log.number, least);
+            } else {
+                log.later = log.later.saturating_add(1);
+            }
+        }
+        Some(log)
+    }
+
     /// Feeds each rule a record: the least rank that fires.
     #[inline]
     fn fed(&self, windows: &mut [u64; LOG_RULES_MAX], record: &[u64], stack: &mut Vec<u64>) -> u32 {
@@ -233,19 +278,56 @@ impl Handed<'_> {
             && self.records.words.len() / self.num_vars as usize >= self.records.count
     }
 
-    fn is_formula(&self, rule: usize) -> bool {
-        let tokens = Tokens {
+    fn tokens(&self, rule: usize) -> Tokens<'_> {
+        Tokens {
             count: self.rules.token_counts[rule] as usize,
             ops: &self.rules.ops[TOKENS_MAX * rule..],
             operands: &self.rules.operands[TOKENS_MAX * rule..],
-        };
-        is_formula(self.num_vars.into(), tokens)
+        }
+    }
+
+    fn is_formula(&self, rule: usize) -> bool {
+        is_formula(self.num_vars.into(), self.tokens(rule))
     }
 
     fn is_window(&self, rule: usize) -> bool {
         let window = self.rules.windows[rule];
         (1..=64).contains(&window) && (1..=window).contains(&self.rules.ms[rule])
     }
+}
+
+/// The value of a formula, modulo 2^width, over a stack.
+fn evaluate(tokens: Tokens<'_>, words: &[u64], width: u32) -> u64 {
+    let mask = u64::MAX >> (64 - width);
+    let mut stack = [0u64; TOKENS_MAX];
+    let mut top = 0;
+    for (&op, &operand) in tokens.ops.iter().zip(tokens.operands).take(tokens.count) {
+        match op {
+            0 | 1 => {
+                stack[top] = if op == 0 {
+                    operand
+                } else {
+                    words[operand as usize]
+                } & mask;
+                top += 1;
+            }
+            7 => stack[top - 1] = !stack[top - 1] & mask,
+            8 => stack[top - 1] = stack[top - 1].wrapping_neg() & mask,
+            _ => {
+                top -= 1;
+                let (a, b) = (stack[top - 1], stack[top]);
+                let value = match op {
+                    2 => a.wrapping_add(b),
+                    3 => a.wrapping_mul(b),
+                    4 => a & b,
+                    5 => a | b,
+                    _ => a ^ b,
+                };
+                stack[top - 1] = value & mask;
+            }
+        }
+    }
+    stack[0]
 }
 
 /// One to eight ranks of 1 to 8, no two equal.
