@@ -42,11 +42,6 @@ module _ (f : ℕ → Bool) where
 pub below-more : (f : ℕ → Bool) (n : ℕ) → ((i : ℕ) → i < n → f i ≡ false) → f n ≡ false → (i : ℕ) → i < n + 1 → f i ≡ false
 below-more f n h e i l = elim (le-or-lt n i) [ inl g ↦ ap f (sym (same i n g (omega arith))) ∙ e | inr g ↦ h i g ]
 
-pub any-same : (n : ℕ) (f g : ℕ → Bool) → ((i : ℕ) → i < n → f i ≡ g i) → anyBelow n f ≡ anyBelow n g
-unfolding anyBelow
-any-same zero f g h = refl
-any-same (suc n) f g h = λ j. any-same n f g (λ i l. h i (omega arith)) j || h n (omega arith) j
-
 -- ---- ranks
 module _ (count : ℕ) (ranks : List ℕ) where
   abbrev bad : ℕ → Bool

@@ -9,7 +9,7 @@ use native.Mathlib.Numerals.{add-one}
 use native.Mathlib.Omega.{arith}
 use borrow.Author.Tests.{ltb-true, ltb-false, lt-ltb, le-ltb, eq-eqb, ne-eqb}
 use lib.Dec.{ltb, eqb}
-use lib.ListN.{length, getD}
+use lib.ListN.{length, getD, getD-replicate}
 use lib.Seq.{take-all}
 use Rattle.arrays.specs.Parts.{partAt}
 use Rattle.arrays.proofs.Lists.{bool-cases}
@@ -27,7 +27,7 @@ use Rattle.log_run.specs.declared.Log.{Log}
 use Rattle.log_run.specs.Step.{capped, noted, rankOn, stepped, logAfter, nothingShown, freshWindows, emptyLog, opened}
 use Rattle.log_run.specs.Steps.{notedOver}
 use Rattle.log_run.specs.Facts.{Event, Event.opening, Event.feeding, Sounding, noSounding, newSounding, goesOn, logOn, logOver, soundingOver, firesIn, someFires, everFires, laterFirings, Least, Shows, ShowsClose, FirstFires, Unaltered, sameClose, closeChanges, ClosedOnce, SmallerRank}
-use Rattle.log_run.proofs.Stepping.{capped-low, capped-high, noted-none, noted-close, noted-later, step-shut, step-open, after-begun, after-shown, all-same}
+use Rattle.log_run.proofs.Stepping.{capped-low, capped-high, noted-none, noted-close, noted-later, step-shut, step-open, after-begun, after-shown}
 use Rattle.log_run.proofs.Soundings.{Kept, kept-none, kept-new, kept-over}
 
 -- ---- counting up to 2^64 - 1
@@ -168,7 +168,7 @@ module _ (nv w : ℕ) (rules : Rules) where
     -- the rank at record k is the least of the rules that fire there by a fresh count
     fresh : (k : ℕ) → k < s .n → (i : ℕ) → i < rules .count → firesOn nv w (ruleAt rules i) (s .records) (getD freshWindows i 0) k ≡ firesIn nv w rules s i k
     fresh k h i l =
-        let zero-seen : getD freshWindows i 0 ≡ 0 = all-same 8 0 i (omega (arith, l, ranked rules good .few)) in
+        let zero-seen : getD freshWindows i 0 ≡ 0 = getD-replicate 8 i 0 0 (omega (arith, l, ranked rules good .few)) in
         ap (λ (x : ℕ). firesOn nv w (ruleAt rules i) (s .records) x k) zero-seen
         ∙ fires-fresh nv w (ruleAt rules i) (sound i l) (s .records) (s .n) (omega (arith, long)) k h
         ∙ ap (λ (x : List ℕ). firesIn nv w rules (record { begun = s .begun; n = s .n; records = x }) i k) (take-all (nv * s .n) (s .records) (omega (arith, long)))

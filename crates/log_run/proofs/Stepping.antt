@@ -9,7 +9,7 @@ use native.Mathlib.Numerals.{add-one}
 use native.Mathlib.Omega.{arith}
 use borrow.Author.Tests.{ltb-false, lt-ltb, le-ltb, eq-eqb, ne-eqb}
 use lib.Dec.{ltb, eqb}
-use lib.ListN.{length, getD, take, drop, replicate, length-map, length-drop}
+use lib.ListN.{length, getD, take, drop, length-map, length-drop}
 use lib.Seq.{take-take, drop-drop, length-take-le, ext-getD}
 use Rattle.arrays.specs.Lists.{countUp}
 use Rattle.arrays.specs.Parts.{partAt}
@@ -93,9 +93,6 @@ eight f i l = getD-map f (countUp 0 8) i 0 0 (omega (arith, length-count 0 8)) �
 
 pub windows-are : (f : ℕ → ℕ) (l : List ℕ) → length l ≡ 8 → ((i : ℕ) → i < 8 → getD l i 0 ≡ f i) → l ≡ map f (countUp 0 8)
 windows-are f l e h = ext-getD 0 l (map f (countUp 0 8)) (e ∙ sym (length-map (countUp 0 8) f ∙ length-count 0 8)) (λ i lt. h i (omega (arith, e)) ∙ sym (eight f i (omega (arith, e))))
-
-eight-same : (f g : ℕ → ℕ) → ((i : ℕ) → i < 8 → f i ≡ g i) → map f (countUp 0 8) ≡ map g (countUp 0 8)
-eight-same f g h = windows-are g (map f (countUp 0 8)) (length-map (countUp 0 8) f ∙ length-count 0 8) (λ i l. eight f i l ∙ h i l)
 
 module _ (nv w : ℕ) (rules : Rules) where
   -- ---- one record
@@ -221,12 +218,6 @@ module _ (nv w : ℕ) (rules : Rules) (l : Log) (n : ℕ) (records : List ℕ) w
   ruled-ran after e h =
       let same : after ≡ unlessRefused number (logAfter nv w rules records l n) l = h ∙ sym (unless-not number (logAfter nv w rules records l n) l e) in
       λ i. record { refusal = sym e i; log = same i }
-
--- ---- a buffer of one value
-pub all-same : (m v k : ℕ) → k < m → getD (replicate m v) k 0 ≡ v
-all-same zero v k h = absurd (omega arith)
-all-same (suc m) v zero h = refl
-all-same (suc m) v (suc k) h = all-same m v k (omega arith)
 
 -- ---- records a to a + b - 1
 pub fits-part : (s a b n long : ℕ) → a + b ≤ n → s * n ≤ long → s * a + s * b ≤ long

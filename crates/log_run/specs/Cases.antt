@@ -74,7 +74,7 @@ pub record Cases : Type 0 where
   pub array-short : Refused 1 8 (rulesIn 1 (1 ∷ []) (1 ∷ []) (1 ∷ []) (1 ∷ []) (first 1) []) 4
   pub width-first : Refused 2 65 (one 9 2 1 1 9) 2
   pub count-first : Refused 7 65 (one 9 2 1 1 9) 1
-  -- a run: the close of the first sounding, and after it that of the second; each opening takes a close away and each sounding makes one
+  -- a run: the close of the first sounding, and after it that of the second; the second opening takes a close away, and each sounding makes one
   pub first-close : logOver 2 8 two (feeding 1 (1 ∷ (1 ∷ [])) ∷ (opening ∷ (feeding 2 (0 ∷ (1 ∷ (1 ∷ (1 ∷ [])))) ∷ []))) emptyLog ≡ logOf true 2 2 1 0 1 3 0
   pub whole-run : logOver 2 8 two run emptyLog ≡ logOf true 1 1 2 0 1 1 0
   pub changes : closeChanges 2 8 two run emptyLog ≡ 3

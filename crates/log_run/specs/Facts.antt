@@ -1,5 +1,6 @@
 -- What holds of every run of openings and records from the empty log, under one set of rules, one variable count and one width, however it is cut into calls: of `opened` and
--- `logged`, which are what `open_log` and `run_log` answer. A refused call takes no record; by which number, `logRefusal` says alone. proofs/Soundings has the proofs. Assumes nothing.
+-- `logged`, which are what `open_log` and `run_log` answer. A refused call takes no record; by which number, `logRefusal` says alone. Each sounding is the last of the run that ends with it. proofs/Soundings and
+-- proofs/Closing have the proofs. Assumes nothing.
 use mathlib.Core.Path.{_≡_}
 use mathlib.Core.Logic.{_⊎_}
 use mathlib.Core.Bool.{Bool, true, false, cond, _&&_}

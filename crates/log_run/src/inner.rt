@@ -80,7 +80,7 @@ fn note_all(fired: &[u8], shown: Shown, n: usize) -> Shown
 
 // ---- runs
 
-// Whether there are records to take: a sounding is open, and no rank is bad.
+// Whether there are records to take: a sounding is open, n isn't 0, and no rank is bad.
 pub fn feeds(begun: bool, count: usize, ranks: &[u32], n: usize) -> bool
     requires { ⌜ count ≤ length (now ranks) ⌝ }
     ensures { λ r. ⌜ r ≡ (begun && (ltb 0 n && not (badRanks count (now (ranks .entry))))) ⌝ }

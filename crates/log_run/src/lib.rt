@@ -46,8 +46,7 @@ pub fn open_log(log: Log) -> Log
 
 // Takes n records in turn: on the first where some rule fires the sounding is closed with that record's number and the least rank that
 // fires; later records with a firing are only counted; without a sounding nothing changes. Of rule i are the values at place i and the
-// opcodes and operands from place 64 i on. Refuses 1, 2, 4, 6, 10, 11, the
-// least first, over every claimed rule, before any opening too.
+// opcodes and operands from place 64 i on. Refuses 1, 2, 4, 6, 10, 11, the least first, over every claimed rule, before any opening too.
 pub fn run_log(
     log: Log,
     rule_count: usize,

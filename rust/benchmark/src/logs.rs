@@ -1,6 +1,6 @@
 //! Closing logs over records. The Rust has none: its side is plain Rust from the request's sentences, handed what the call is handed, the
-//! log by value and the lent tokens; what is refused is tested first, once a call. One record a call is timed also, without a bar, beside
-//! plain Rust that changes the log in place and evaluates formulas that were compiled before, as for a rule (rules.rs).
+//! log by value and the lent tokens; what is refused is tested first, once a call. Both are timed also beside plain
+//! Rust that changes the log in place and evaluates formulas that were compiled before, as for a rule (rules.rs); one record a call without a bar.
 
 use std::hint::black_box;
 use std::time::Duration;
@@ -18,7 +18,7 @@ use crate::Call;
 /// The sizes of formulas, and how many rules there are.
 const SIZES: [usize; 2] = [GATE_TOKENS, 10];
 const RULE_COUNTS: [(usize, &str); 3] = [(1, "one rule"), (2, "two rules"), (8, "eight rules")];
-/// Records of a call, how many calls of them, and records that are handed in one by one.
+/// Records of a call, of a round of such calls, and of a round in which they are handed in one by one.
 const AT_ONCE: usize = 1000;
 const MANY: usize = 4 * AT_ONCE;
 const SINGLES: usize = 256;
@@ -32,24 +32,24 @@ pub fn time(plan: &Plan, num_vars: u32, width: u32, take: &mut impl FnMut(Call, 
         let watch = &Watch::new(num_vars, width, size);
         for (rules, told) in RULE_COUNTS {
             let station = &Station::new(watch, rules);
-            for (call, count, at_once) in [(Call::Log, MANY, AT_ONCE), (Call::LogOne, SINGLES, 1)] {
+            for (call, in_place, count, at_once) in [
+                (Call::Log, Call::LogInPlace, MANY, AT_ONCE),
+                (Call::LogOne, Call::LogOneInPlace, SINGLES, 1),
+            ] {
+                let note = format!("{told} of {size} tokens, {at_once} a call");
                 let mut ours = station.timed(count, at_once, |handed, log| handed.ours(log));
                 let mut plain = station.timed(count, at_once, |handed, log| {
                     *log = handed.written(*log).expect("in range");
                 });
                 let times = alternate(plan, &mut ours, &mut plain).per(count);
-                take(
-                    call,
-                    format!("{told} of {size} tokens, {count} records"),
-                    times,
-                );
+                take(call, note.clone(), times);
+                let mut stack = Vec::new();
+                let mut plain = station.timed(count, at_once, |handed, log| {
+                    handed.plain(log, &mut stack);
+                });
+                let times = alternate(plan, &mut ours, &mut plain).per(count);
+                take(in_place, note, times);
             }
-            let mut stack = Vec::new();
-            let mut ours = station.timed(SINGLES, 1, |handed, log| handed.ours(log));
-            let mut plain = station.timed(SINGLES, 1, |handed, log| handed.plain(log, &mut stack));
-            let times = alternate(plan, &mut ours, &mut plain).per(SINGLES);
-            let note = format!("{told} of {size} tokens, {SINGLES} records");
-            take(Call::LogInPlace, note, times);
         }
     }
 }
@@ -210,12 +210,13 @@ impl Handed<'_> {
             return Some(log);
         }
         log.open = 1;
+        let mut stack = [0; TOKENS_MAX];
         let records = self.records.words.chunks_exact(self.num_vars as usize);
         for record in records.take(self.records.count) {
             log.number = log.number.saturating_add(1);
             let mut least = NONE;
             for rule in 0..self.rules.count {
-                let value = evaluate(self.tokens(rule), record, self.width);
+                let value = evaluate(self.tokens(rule), record, self.width, &mut stack);
                 let history = log.windows[rule] << 1 | u64::from(value != 0);
                 log.windows[rule] = history;
                 let mask = u64::MAX >> (64 - self.rules.windows[rule]);
@@ -297,9 +298,8 @@ impl Handed<'_> {
 }
 
 /// The value of a formula, modulo 2^width, over a stack.
-fn evaluate(tokens: Tokens<'_>, words: &[u64], width: u32) -> u64 {
+fn evaluate(tokens: Tokens<'_>, words: &[u64], width: u32, stack: &mut [u64; TOKENS_MAX]) -> u64 {
     let mask = u64::MAX >> (64 - width);
-    let mut stack = [0u64; TOKENS_MAX];
     let mut top = 0;
     for (&op, &operand) in tokens.ops.iter().zip(tokens.operands).take(tokens.count) {
         match op {

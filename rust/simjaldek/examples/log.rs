@@ -10,7 +10,7 @@ use std::process::ExitCode;
 
 /// What is told with every error.
 pub const USAGE: &str = "usage: log [FILE]
-a line of FILE is `open`, or a record: the height, the height before, how many of 16 frames were lost; # begins a comment";
+a line of FILE is `open`, or a record: the height, the height before, how many of 15 frames were lost; # begins a comment";
 
 /// The file beside this one.
 pub const DESCENT: &str = include_str!("descent.txt");

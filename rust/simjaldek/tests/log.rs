@@ -123,7 +123,7 @@ fn by_hand() {
     // burst first; what fires later is counted, once where both fire
     assert_eq!(after(&[1, 1, 2, 2, 3, 3]), (6, close(2, 1), 4));
     assert_eq!(after(&[3, 3, 3, 3]), (4, close(2, 1), 2));
-    // the windows go on after the close: records 5 and 6 fire by what came after it
+    // the windows go on after the close: records 3 and 6 fire, 6 by what came after it
     assert_eq!(after(&[1, 1, 0, 0, 2, 2]), (6, close(2, 1), 2));
 }
 
@@ -399,6 +399,7 @@ fn states_that_no_run_gives() {
                 ..before
             }
         );
+        log.resume(before);
         fed(words, &mut log, &record);
         let expected = if before.open == 0 {
             before

@@ -833,7 +833,7 @@ const RULE_FAULTS: [RuleFault; 37] = [
     (6, |h| h.operands[1] = 2),
     (6, |h| h.operands[2] = 1),
     // an operand is missing, and two values are left
-    (6, |h| h.ops[1] = 7),
+    (6, |h| (h.ops[1], h.operands[1]) = (7, 0)),
     (6, |h| h.ops[2] = 7),
     (4, |h| {
         h.tokens = 3;
@@ -1135,7 +1135,7 @@ const LOG_FAULTS: [LogFault; 51] = [
     (6, |h| h.operands[64 + 1] = 2),
     (6, |h| h.operands[2] = 1),
     // an operand is missing, and two values are left
-    (6, |h| h.ops[1] = 7),
+    (6, |h| (h.ops[1], h.operands[1]) = (7, 0)),
     (6, |h| h.ops[64 + 2] = 7),
     (6, |h| {
         h.grow(9);

@@ -17,7 +17,8 @@ use crate::report::{Kind, Report};
 /// The most records of a call.
 const RECORDS: u64 = 40;
 
-/// One call, or its refusal. That a refused log comes back as it was the binding asserts.
+/// One call, or its refusal. That a refused log comes back as it was the binding asserts in debug builds
+/// (tests/small_run.rs).
 pub fn log(inputs: &mut Inputs, report: &mut Report) {
     let (good, width) = widths(inputs);
     let num_vars = num_vars(inputs);

@@ -1,7 +1,6 @@
 -- `log_run::inner::run_few` meets its contract. Assumes nothing.
 use Prim.Native.Nat.{ℕ}
-use lib.ListN.{length-replicate}
-use Rattle.log_run.proofs.Stepping.{all-same}
+use lib.ListN.{length-replicate, getD-replicate}
 use borrow.Author.Needs.{needs}
 use native.Mathlib.Omega.{arith}
 use Rattle.log_run.proofs.inner.run_few.Statement.{statement}
@@ -16,7 +15,7 @@ slice-aggregate-run-over-2 c = search needs
 run-over-requires : tie.Need-run-over-requires
 run-over-requires c κs = let p = c .before .before .before .before .before .before .before .before .before .before .before .pre in (
   p .0,
-  (p .1 .0, (omega (arith, p .1 .1, length-replicate {A = ℕ} 16 0), (omega (arith, p .1 .1, length-replicate {A = ℕ} 16 9), λ k l. all-same 16 9 k (omega (arith, p .1 .1))))),
+  (p .1 .0, (omega (arith, p .1 .1, length-replicate {A = ℕ} 16 0), (omega (arith, p .1 .1, length-replicate {A = ℕ} 16 9), λ k l. getD-replicate 16 k 9 0 (omega (arith, p .1 .1))))),
 )
 
 same-length : tie.Need-same-length

@@ -129,7 +129,7 @@ fn lengths(file: &mut DataFile) {
 
 /// Counts of rules and of records far beyond the arrays.
 fn huge_counts(file: &mut DataFile) {
-    // 64 times the first is 128 modulo 2^64 (and the other arrays are too short all the same)
+    // 64 times the last but one is 128 modulo 2^64 (and the other arrays are too short all the same)
     for rules in HUGE.into_iter().chain([(1 << 58) + 2, 3]) {
         let handed = changed(2, |handed| handed.rules = rules);
         case(file, &handed, REFUSED_LENGTH);
