@@ -134,7 +134,9 @@ impl Call {
             Call::Log => "Closing log over records",
             Call::LogOne => "Closing log, one record a call",
             Call::LogInPlace => "Closing log over records, the Rust in place and compiled before",
-            Call::LogOneInPlace => "Closing log, one record a call, the Rust in place and compiled before",
+            Call::LogOneInPlace => {
+                "Closing log, one record a call, the Rust in place and compiled before"
+            }
         }
     }
 
