@@ -1,3 +1,4 @@
 -- The laws of this crate, which the crates above cite too.
 pub mod Stack
+pub mod Checking
 pub mod Formulas

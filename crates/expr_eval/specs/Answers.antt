@@ -24,6 +24,11 @@ abbrev pub evaluated : ℕ → ℕ → ℕ → List ℕ → List ℕ → List �
 evaluated nv w count ops operands words =
     outcome (evalRefusal nv w count ops operands words) (valueOf w words (tokens count ops operands))
 
+-- what is answered where only the formula is left to be tested: its value, or 6
+abbrev pub checked : ℕ → ℕ → ℕ → List ℕ → List ℕ → List ℕ → Outcome ℕ
+checked nv w count ops operands words =
+    outcome (refuse (notFormula nv count ops operands) 6 0) (valueOf w words (tokens count ops operands))
+
 -- 01, Expected forms: what each case of `Value` says, its refusal or the value
 abbrev pub valueSays : Value → Outcome ℕ
 valueSays (Word v) = answer v
