@@ -3,7 +3,7 @@ use mathlib.Core.Bool.{Bool, cond, _||_}
 use mathlib.Core.List.{List, map}
 use Prim.Native.Nat.{ℕ, zero, suc, _+_, _-_, _*_, _/_, _%_, _^_}
 use lib.Dec.{leb, ltb}
-use lib.ListN.{length}
+use lib.ListN.{length, getD}
 use Rattle.arrays.specs.Lists.{countUp, laid}
 use Rattle.arrays.specs.Parts.{partAt}
 use Rattle.limits.specs.Refusal.{refuse, unlessRefused, outsideOf, badCount, badWidth}
@@ -13,6 +13,7 @@ use Rattle.expr.specs.Answers.{tooShort, notFormula}
 use Rattle.expr_eval.specs.Value.{valueOf}
 use Rattle.rule_run.specs.declared.RuleState.{RuleState}
 use Rattle.rule_run.specs.declared.RuleAnswer.{RuleAnswer}
+use Rattle.rule_run.specs.declared.RecordAnswer.{RecordAnswer}
 
 -- ---- marks
 -- 02, 2.6: its formula was nonzero. A record's mark: 1 where the value isn't 0
@@ -90,3 +91,7 @@ ranOr number mark m window s n answers = record {
 abbrev pub ran : ℕ → ℕ → ℕ → List ℕ → List ℕ → ℕ → ℕ → RuleState → ℕ → List ℕ → List ℕ → Ran
 ran nv w count ops operands m window s n records answers =
     ranOr (runRefusal nv w count ops operands m window n records answers) (markAt nv w (tokens count ops operands) records) m window s n answers
+
+-- a call with one record, over an array of one place: what it replies, with its answer
+abbrev pub recordAnswer : Ran → RecordAnswer
+recordAnswer x = record { refusal = x .reply .refusal; answer = getD (x .answers) 0 0; state = x .reply .state }

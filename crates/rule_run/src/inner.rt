@@ -1,14 +1,21 @@
 // The steps of a run, and its refusals.
 use crate::MAX_WINDOW;
+use crate::RecordAnswer;
+use crate::RuleState;
+use expr_eval::Value;
 use row_gates::ROW_WORDS;
 ghost use mathlib.Core.Path.{_≡_};
 ghost use mathlib.Core.Bool.{cond};
-ghost use mathlib.Core.List.{List};
+ghost use mathlib.Core.List.{List, [], _∷_};
 ghost use Prim.Native.Nat.{ℕ, _+_, _-_, _*_, _%_, _^_, _≤_, _<_};
-ghost use lib.Dec.{leb};
+ghost use lib.Dec.{leb, ltb};
 ghost use lib.ListN.{length, getD};
+ghost use Rattle.limits.specs.Refusal.{refuse, outcome};
+ghost use Rattle.arrays.specs.Parts.{partAt};
 ghost use Rattle.expr.specs.Formula.{tokens};
-ghost use Rattle.rule_run.specs.Window.{nonzero, markAt, sumBelow, bitOf, badWindow, tooFew, runRefusal};
+ghost use Rattle.expr_eval.specs.Value.{valueOf};
+ghost use Rattle.expr_eval.specs.Answers.{valueSays};
+ghost use Rattle.rule_run.specs.Window.{nonzero, markAt, sumBelow, bitOf, badWindow, tooFew, runRefusal, ranOr, recordAnswer};
 ghost use Rattle.rule_run.specs.Steps.{Ready, Fed};
 
 // Whether W is not 1 to 64, or M not 1 to W: refusal 10.
@@ -68,6 +75,51 @@ pub fn run_refusal(
     0
 }
 
+// A value, or 10 in its place; a number that came before stays.
+fn after_window(x: Value, m: u32, window: u32) -> Value
+    ensures { λ r. ⌜ ((n v : ℕ) → valueSays x ≡ outcome n v → valueSays r ≡ outcome (refuse (ltb 0 n) n (refuse (badWindow m window) 10 0)) v) ⌝ }
+{
+    match x {
+        Value::Refused(_) => x,
+        Value::Word(_) => {
+            if bad_window(m, window) {
+                Value::Refused(10)
+            } else {
+                x
+            }
+        }
+    }
+}
+
+// The formula's value at one record, or the number of the refusal. The tokens are read once.
+pub fn record_value(
+    nv: u32,
+    w: u32,
+    count: usize,
+    ops: &[u8],
+    operands: &[u64],
+    m: u32,
+    window: u32,
+    words: &[u64],
+) -> Value
+    ensures { λ r. ⌜ valueSays r ≡ outcome (runRefusal nv w count (now (ops .entry)) (now (operands .entry)) m window 1 (now (words .entry)) (0 ∷ [])) (valueOf w (partAt nv (now (words .entry)) 0) (tokens count (now (ops .entry)) (now (operands .entry)))) ⌝ }
+{
+    if limits::inner::bad_count(nv) {
+        return Value::Refused(1);
+    }
+    if limits::inner::bad_width(w) {
+        return Value::Refused(2);
+    }
+    if expr::inner::too_short(count, ops, operands) {
+        return Value::Refused(4);
+    }
+    if words.len() < nv as usize {
+        return Value::Refused(4);
+    }
+    let x = expr_eval::inner::eval_checked(nv, w, count, ops, operands, &words[0..nv as usize]);
+    after_window(x, m, window)
+}
+
 // 1 where a value isn't 0.
 fn mark_of(value: u64) -> u64
     ensures { λ r. ⌜ r ≡ nonzero value ⌝ }
@@ -113,6 +165,20 @@ fn feed(answers: &mut [u8], at: usize, value: u64, m: u32, window: u32, past: u6
     let mark = mark_of(value);
     answers[at] = answer_of(count_of(past, mark, window), m);
     with_mark(past, mark)
+}
+
+// The same of one record by itself.
+pub fn feed_record(value: u64, m: u32, window: u32, past: u64) -> RecordAnswer
+    requires { ⌜ (1 ≤ window) × (window ≤ 64) ⌝ }
+    ensures { λ r. ⌜ ((mark : ℕ → ℕ) → ((i : ℕ) → mark i ≤ 1) → mark 0 ≡ nonzero value → r ≡ recordAnswer (ranOr 0 mark m window (record { past = past }) 1 (0 ∷ []))) ⌝ }
+{
+    let mut answers = [0u8; 1];
+    let after = feed(&mut answers, 0, value, m, window, past);
+    RecordAnswer {
+        refusal: 0,
+        answer: answers[0],
+        state: RuleState { past: after },
+    }
 }
 
 // The same of sixteen records.
