@@ -1,20 +1,29 @@
 // The rules over records, and what is refused of them, with what was tested.
 use crate::MAX_RULES;
 use expr::MAX_TOKENS;
+use rule_run::RecordAnswer;
 use rule_run::RuleAnswer;
 use rule_run::RuleState;
 ghost use mathlib.Core.Path.{_≡_};
 ghost use mathlib.Core.Bool.{cond};
+ghost use mathlib.Core.List.{[], _∷_};
 ghost use Prim.Native.Nat.{ℕ, _≤_, _<_};
 ghost use lib.Dec.{eqb};
 ghost use lib.ListN.{length, getD};
 ghost use Rattle.limits.specs.Refusal.{refuse};
+ghost use Rattle.rule_run.specs.Window.{recordAnswer};
 ghost use Rattle.log_rules.specs.Rules.{rulesIn, ruleIn, sameRank, badRanks, shortRules};
 ghost use Rattle.log_rules.specs.Firing.{noRank, lesser};
 ghost use Rattle.log_rules.specs.Steps.{formulasRefusal, rulesRefusal, lentRefusal, ruleRefusal, leastNumber, Lends, LendsAt, Ranked, ranWithin, firesOn, pastAt, rankAt, windowAt};
 
 // More than every rank: no rule fires.
 pub const NO_RANK: u8 = 9;
+
+// The least rank that fires on a record, and the least number by which a rule is refused, 0 for none.
+pub struct Fired {
+    pub refusal: u32,
+    pub rank: u8,
+}
 
 // ---- refusals
 
@@ -327,4 +336,116 @@ pub fn feed_rules(
         i += 1;
     }
     refusal
+}
+
+// ---- one record
+
+// One rule over one record.
+fn ask_record(
+    nv: u32,
+    w: u32,
+    token_count: usize,
+    ops: &[u8],
+    operands: &[u64],
+    m: u32,
+    window: u32,
+    past: u64,
+    words: &[u64],
+) -> RecordAnswer
+    ensures { λ r. ⌜ r ≡ recordAnswer (ranWithin nv w «token_count» (now (ops .entry)) (now (operands .entry)) m window past 1 (now (words .entry)) (0 ∷ [])) ⌝ }
+{
+    if MAX_TOKENS < token_count {
+        return RecordAnswer {
+            refusal: 6,
+            answer: 0,
+            state: RuleState { past },
+        };
+    }
+    rule_run::run_record(
+        nv,
+        w,
+        token_count,
+        ops,
+        operands,
+        m,
+        window,
+        RuleState { past },
+        words,
+    )
+}
+
+// The rule at place i over one record: where it isn't refused, its window after it, and whether it fires.
+fn ask_record_at(
+    i: usize,
+    ms: &[u32],
+    windows: &[u32],
+    token_counts: &[u32],
+    ops: &[u8],
+    operands: &[u64],
+    nv: u32,
+    w: u32,
+    past: u64,
+    words: &[u64],
+) -> RecordAnswer
+    requires { ⌜ LendsAt nv w i (now ms) (now windows) (now «token_counts») (now ops) (now operands) 1 (now words) ⌝ }
+    ensures { λ r. ⌜ r .refusal ≡ ruleRefusal nv (ruleIn (now (ms .entry)) (now (windows .entry)) (now («token_counts» .entry)) (now (ops .entry)) (now (operands .entry)) i) ⌝ }
+    ensures { λ r. ⌜ (r .refusal ≡ 0 → r .state .past ≡ pastAt nv w (ruleIn (now (ms .entry)) (now (windows .entry)) (now («token_counts» .entry)) (now (ops .entry)) (now (operands .entry)) i) (now (words .entry)) past 1) ⌝ }
+    ensures { λ r. ⌜ (r .refusal ≡ 0 → eqb (r .answer) 1 ≡ firesOn nv w (ruleIn (now (ms .entry)) (now (windows .entry)) (now («token_counts» .entry)) (now (ops .entry)) (now (operands .entry)) i) (now (words .entry)) past 0) ⌝ }
+{
+    let from = MAX_TOKENS * i;
+    ask_record(
+        nv,
+        w,
+        token_counts[i] as usize,
+        &ops[from..from + MAX_TOKENS],
+        &operands[from..from + MAX_TOKENS],
+        ms[i],
+        windows[i],
+        past,
+        words,
+    )
+}
+
+// All rules over one record: as `feed_rules`, with no place for answers.
+pub fn feed_record(
+    seen: &mut [u64],
+    count: usize,
+    ranks: &[u32],
+    ms: &[u32],
+    windows: &[u32],
+    token_counts: &[u32],
+    ops: &[u8],
+    operands: &[u64],
+    nv: u32,
+    w: u32,
+    words: &[u64],
+) -> Fired
+    requires { ⌜ Lends nv w (rulesIn count (now ranks) (now ms) (now windows) (now «token_counts») (now ops) (now operands)) 1 (now words) × (Ranked (rulesIn count (now ranks) (now ms) (now windows) (now «token_counts») (now ops) (now operands)) × (length (now seen) ≡ 8)) ⌝ }
+    ensures { λ r. ⌜ r .refusal ≡ formulasRefusal nv (rulesIn count (now (ranks .entry)) (now (ms .entry)) (now (windows .entry)) (now («token_counts» .entry)) (now (ops .entry)) (now (operands .entry))) count ⌝ }
+    ensures { λ r. ⌜ (r .refusal ≡ 0 → (i : ℕ) → getD (now (seen .exit)) i 0 ≡ windowAt nv w (rulesIn count (now (ranks .entry)) (now (ms .entry)) (now (windows .entry)) (now («token_counts» .entry)) (now (ops .entry)) (now (operands .entry))) (now (words .entry)) (now (seen .entry)) count 1 i) ⌝ }
+    ensures { λ r. ⌜ (r .refusal ≡ 0 → r .rank ≡ rankAt nv w (rulesIn count (now (ranks .entry)) (now (ms .entry)) (now (windows .entry)) (now («token_counts» .entry)) (now (ops .entry)) (now (operands .entry))) (now (words .entry)) (now (seen .entry)) count 0) ⌝ }
+{
+    let mut refusal: u32 = 0;
+    let mut rank = NO_RANK;
+    let mut i: usize = 0;
+    while i < count {
+        let x = ask_record_at(
+            i,
+            ms,
+            windows,
+            token_counts,
+            ops,
+            operands,
+            nv,
+            w,
+            seen[i],
+            words,
+        );
+        let state = x.state;
+        seen[i] = state.past;
+        rank = offered(rank, x.answer, ranks[i] as u8);
+        refusal = least_number(refusal, x.refusal);
+        i += 1;
+    }
+    Fired { refusal, rank }
 }
