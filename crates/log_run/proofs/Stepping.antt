@@ -2,7 +2,7 @@
 use mathlib.Core.Path.{_≡_, refl, sym, ap, ap₂, _∙_}
 use mathlib.Core.Logic.{_⊎_, inl, inr}
 use mathlib.Core.Bool.{Bool, true, false, not, cond, _&&_}
-use mathlib.Core.List.{List, map}
+use mathlib.Core.List.{List, [], _∷_, map}
 use Prim.Native.Nat.{ℕ, zero, suc, _+_, _-_, _*_, _^_, _≤_, _<_}
 use native.Mathlib.Nat.{eq-zero-or-pos, mul-add, mul-le-mul-left, add-zero, add-suc}
 use native.Mathlib.Numerals.{add-one}
@@ -24,8 +24,9 @@ use Rattle.log_rules.proofs.Tests.{rank-same, refusal-lent, refusal-rules, rule
 use Rattle.log_run.specs.declared.Shown.{Shown}
 use Rattle.log_run.specs.declared.Log.{Log}
 use Rattle.log_run.specs.declared.LogAnswer.{LogAnswer}
+use Rattle.log_run.specs.declared.inner.Took.{Took}
 use Rattle.log_run.specs.Step.{capped, noted, rankOn, windowsOn, stepped, logAfter, logged}
-use Rattle.log_run.specs.Steps.{openLog, ruled, notedOver}
+use Rattle.log_run.specs.Steps.{openLog, Takes, ruled, taken, notedOver}
 
 -- ---- what is shown
 pub capped-low : (n : ℕ) → n < 2 ^ 64 → capped n ≡ n
@@ -66,6 +67,10 @@ noted-same f g s (suc n) h = ap₂ noted (h n (omega arith)) (noted-same f g s n
 pub noted-more : (f : ℕ → ℕ) (s t : Shown) (n : ℕ) → t ≡ noted (f n) (notedOver f s n) → t ≡ notedOver f s (n + 1)
 unfolding notedOver
 noted-more f s t n e = e ∙ ap (notedOver f s) (sym (add-one n))
+
+pub noted-one : (rank : ℕ) (s t : Shown) → t ≡ noted rank s → t ≡ notedOver (λ (k : ℕ). getD (rank ∷ []) k 0) s 1
+unfolding notedOver
+noted-one rank s t e = e
 
 pub noted-start : (f : ℕ → ℕ) (s : Shown) → s ≡ notedOver f s 0
 unfolding notedOver
@@ -285,3 +290,29 @@ module _ (nv w : ℕ) (rules : Rules) (l : Log) (n : ℕ) (records : List ℕ) w
 -- a log whose sounding is open, by its parts
 pub open-is : (l : Log) → l .begun ≡ true → openLog (l .windows) (l .shown) ≡ l
 open-is l e = λ i. record { windows = l .windows; shown = l .shown; begun = sym e i }
+
+-- ---- what was taken, as the call's answer
+module _ (l : Log) (after : List ℕ) (x : Took) where
+  abbrev whole : Log
+  whole = record { windows = after; shown = x .shown; begun = l .begun }
+
+  pub taken-refused : (x .refusal ≡ 0 → ⊥) → _≡_ {A = LogAnswer} (record { refusal = x .refusal; log = l }) (taken l after x)
+  taken-refused h = let same = sym (unless-refused (x .refusal) whole l (omega (arith, h))) in λ i. record { refusal = x .refusal; log = same i }
+
+  pub taken-whole : x .refusal ≡ 0 → _≡_ {A = LogAnswer} (record { refusal = 0; log = record { windows = after; shown = x .shown; begun = l .begun } }) (taken l after x)
+  taken-whole z = let same = sym (unless-not (x .refusal) whole l z) in λ i. record { refusal = sym z i; log = same i }
+
+  pub taken-ruled : (nv w : ℕ) (rules : Rules) (n : ℕ) (records : List ℕ) → l .begun ≡ true → Takes nv w rules records n (l .windows) (l .shown) after x → taken l after x ≡ ruled nv w rules l n records
+  taken-ruled nv w rules n records b t = elim (eq-zero-or-pos (x .refusal)) [
+    | inr p ↦ let h : x .refusal ≡ 0 → ⊥ = (λ z. omega (arith, p, z)) in sym (taken-refused h) ∙ ruled-refused nv w rules l n records (x .refusal) (t .number) h
+    | inl z ↦
+        sym (taken-whole z)
+        ∙ ruled-ran nv w rules l n records whole (sym (t .number) ∙ z) ((λ i. record { windows = after; shown = x .shown; begun = b i }) ∙ t .log z ∙ ap (λ (y : Log). logAfter nv w rules records y n) (open-is l b))
+  ]
+
+-- nothing was
+pub taken-none : (l : Log) (number : ℕ) → _≡_ {A = LogAnswer} (record { refusal = number; log = l }) (taken l (l .windows) (record { shown = l .shown; refusal = number }))
+taken-none l number = elim (eq-zero-or-pos number) [
+  | inr p ↦ taken-refused l (l .windows) (record { shown = l .shown; refusal = number }) (λ z. omega (arith, p, z))
+  | inl z ↦ let same = sym (unless-not number l l z) in λ i. record { refusal = number; log = same i }
+]

@@ -32,3 +32,10 @@ ruled nv w rules l n records = record {
 unfoldable pub notedOver : (ℕ → ℕ) → Shown → ℕ → Shown
 notedOver rank s zero = s
 notedOver rank s (suc n) = noted (rank n) (notedOver rank s n)
+
+-- what a call answers that leaves these windows and took so much: beside a refusal the log as it was
+abbrev pub taken : Log → List ℕ → Took → LogAnswer
+taken l after x = record {
+  refusal = x .refusal;
+  log = unlessRefused (x .refusal) (record { windows = after; shown = x .shown; begun = l .begun }) l;
+}

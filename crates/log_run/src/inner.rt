@@ -1,18 +1,16 @@
 // The steps of a run, with what was tested.
-use crate::Log;
-use crate::LogAnswer;
 use crate::Shown;
 use log_rules::inner::NO_RANK;
 ghost use mathlib.Core.Path.{_≡_};
-ghost use mathlib.Core.Bool.{true, not, _&&_};
+ghost use mathlib.Core.Bool.{not, _&&_};
 ghost use Prim.Native.Nat.{ℕ, suc, _≤_, _<_};
 ghost use lib.Dec.{ltb};
 ghost use lib.ListN.{length, getD};
 ghost use Rattle.log_rules.specs.Rules.{rulesIn, badRanks};
 ghost use Rattle.log_rules.specs.Firing.{noRank};
 ghost use Rattle.log_rules.specs.Steps.{Lends, Ranked};
-ghost use Rattle.log_run.specs.Step.{capped, noted};
-ghost use Rattle.log_run.specs.Steps.{Takes, ruled, notedOver};
+ghost use Rattle.log_run.specs.Step.{capped, noted, logged};
+ghost use Rattle.log_run.specs.Steps.{Takes, taken, notedOver};
 
 // How many records go at once where there are few of them, and where there are many.
 const FEW: usize = 16;
@@ -336,9 +334,48 @@ fn run_all(
     )
 }
 
-// The log after all records of an open sounding; as it was where a rule is refused.
-pub fn run(
-    log: Log,
+// One record, with no place for answers.
+fn run_one(
+    seen: &mut [u64],
+    shown: Shown,
+    count: usize,
+    ranks: &[u32],
+    ms: &[u32],
+    windows: &[u32],
+    token_counts: &[u32],
+    ops: &[u8],
+    operands: &[u64],
+    nv: u32,
+    w: u32,
+    records: &[u64],
+) -> Took
+    requires { ⌜ Lends nv w (rulesIn count (now ranks) (now ms) (now windows) (now «token_counts») (now ops) (now operands)) 1 (now records) × (Ranked (rulesIn count (now ranks) (now ms) (now windows) (now «token_counts») (now ops) (now operands)) × (length (now seen) ≡ 8)) ⌝ }
+    ensures { λ r. ⌜ Takes nv w (rulesIn count (now (ranks .entry)) (now (ms .entry)) (now (windows .entry)) (now («token_counts» .entry)) (now (ops .entry)) (now (operands .entry))) (now (records .entry)) 1 (now (seen .entry)) shown (now (seen .exit)) r ⌝ }
+{
+    let x = log_rules::inner::feed_record(
+        seen,
+        count, // after a close too
+        ranks,
+        ms,
+        windows,
+        token_counts,
+        ops,
+        operands,
+        nv,
+        w,
+        records,
+    );
+    let after = note(shown, x.rank);
+    Took {
+        shown: after,
+        refusal: x.refusal,
+    }
+}
+
+// All records of an open sounding, by how many there are.
+fn run(
+    seen: &mut [u64],
+    shown: Shown,
     count: usize,
     ranks: &[u32],
     ms: &[u32],
@@ -350,15 +387,66 @@ pub fn run(
     w: u32,
     n: usize,
     records: &[u64],
-) -> LogAnswer
-    requires { ⌜ Lends nv w (rulesIn count (now ranks) (now ms) (now windows) (now «token_counts») (now ops) (now operands)) n (now records) × (Ranked (rulesIn count (now ranks) (now ms) (now windows) (now «token_counts») (now ops) (now operands)) × (log .begun ≡ true)) ⌝ }
+) -> Took
+    requires { ⌜ Lends nv w (rulesIn count (now ranks) (now ms) (now windows) (now «token_counts») (now ops) (now operands)) n (now records) × (Ranked (rulesIn count (now ranks) (now ms) (now windows) (now «token_counts») (now ops) (now operands)) × (length (now seen) ≡ 8)) ⌝ }
     requires { ⌜ 1 ≤ n ⌝ }
-    ensures { λ r. ⌜ r ≡ ruled nv w (rulesIn count (now (ranks .entry)) (now (ms .entry)) (now (windows .entry)) (now («token_counts» .entry)) (now (ops .entry)) (now (operands .entry))) log n (now (records .entry)) ⌝ }
+    ensures { λ r. ⌜ Takes nv w (rulesIn count (now (ranks .entry)) (now (ms .entry)) (now (windows .entry)) (now («token_counts» .entry)) (now (ops .entry)) (now (operands .entry))) (now (records .entry)) n (now (seen .entry)) shown (now (seen .exit)) r ⌝ }
 {
-    let mut seen = log.windows;
-    let x = run_all(
-        &mut seen,
-        log.shown,
+    if n == 1 {
+        return run_one(
+            seen,
+            shown,
+            count,
+            ranks,
+            ms,
+            windows,
+            token_counts,
+            ops,
+            operands,
+            nv,
+            w,
+            records,
+        );
+    }
+    run_all(
+        seen,
+        shown,
+        count,
+        ranks,
+        ms,
+        windows,
+        token_counts,
+        ops,
+        operands,
+        nv,
+        w,
+        n,
+        records,
+    )
+}
+
+// The whole call over the parts of a log, `seen` being its windows: no array or struct of it is copied on the way. Where it is refused the
+// windows may be any.
+pub fn take(
+    seen: &mut [u64],
+    begun: bool,
+    shown: Shown,
+    count: usize,
+    ranks: &[u32],
+    ms: &[u32],
+    windows: &[u32],
+    token_counts: &[u32],
+    ops: &[u8],
+    operands: &[u64],
+    nv: u32,
+    w: u32,
+    n: usize,
+    records: &[u64],
+) -> Took
+    requires { ⌜ length (now seen) ≡ 8 ⌝ }
+    ensures { λ r. ⌜ taken (record { windows = now (seen .entry); shown = shown; begun = begun }) (now (seen .exit)) r ≡ logged nv w (rulesIn count (now (ranks .entry)) (now (ms .entry)) (now (windows .entry)) (now («token_counts» .entry)) (now (ops .entry)) (now (operands .entry))) (record { windows = now (seen .entry); shown = shown; begun = begun }) n (now (records .entry)) ⌝ }
+{
+    let refusal = log_rules::inner::lent_refusal(
         count,
         ranks,
         ms,
@@ -371,19 +459,41 @@ pub fn run(
         n,
         records,
     );
-    if x.refusal != 0 {
-        return LogAnswer {
-            log,
-            refusal: x.refusal,
-        };
+    if refusal != 0 {
+        return Took { shown, refusal };
     }
-    let shown = x.shown;
-    LogAnswer {
-        log: Log {
-            windows: seen,
+    if feeds(begun, count, ranks, n) {
+        return run(
+            seen,
             shown,
-            begun: true,
-        },
-        refusal: 0,
+            count,
+            ranks,
+            ms,
+            windows,
+            token_counts,
+            ops,
+            operands,
+            nv,
+            w,
+            n,
+            records,
+        );
+    }
+    let number = log_rules::inner::rules_refusal(
+        count,
+        ranks,
+        ms,
+        windows,
+        token_counts,
+        ops,
+        operands,
+        nv,
+        w,
+        n,
+        records,
+    );
+    Took {
+        shown,
+        refusal: number,
     }
 }

@@ -63,7 +63,11 @@ pub fn run_log(
 ) -> LogAnswer
     ensures { λ r. ⌜ r ≡ logged nv w (rulesIn «rule_count» (now (ranks .entry)) (now (ms .entry)) (now (windows .entry)) (now («token_counts» .entry)) (now (ops .entry)) (now (operands .entry))) log n (now (records .entry)) ⌝ }
 {
-    let refusal = log_rules::inner::lent_refusal(
+    let mut seen = log.windows;
+    let x = inner::take(
+        &mut seen,
+        log.begun,
+        log.shown,
         rule_count,
         ranks,
         ms,
@@ -76,40 +80,19 @@ pub fn run_log(
         n,
         records,
     );
-    if refusal != 0 {
-        return LogAnswer { log, refusal };
-    }
-    if inner::feeds(log.begun, rule_count, ranks, n) {
-        return inner::run(
+    if x.refusal != 0 {
+        return LogAnswer {
             log,
-            rule_count,
-            ranks,
-            ms,
-            windows,
-            token_counts,
-            ops,
-            operands,
-            nv,
-            w,
-            n,
-            records,
-        );
+            refusal: x.refusal,
+        };
     }
-    let number = log_rules::inner::rules_refusal(
-        rule_count,
-        ranks,
-        ms,
-        windows,
-        token_counts,
-        ops,
-        operands,
-        nv,
-        w,
-        n,
-        records,
-    );
+    let shown = x.shown;
     LogAnswer {
-        log,
-        refusal: number,
+        log: Log {
+            windows: seen,
+            shown,
+            begun: log.begun,
+        },
+        refusal: 0,
     }
 }

@@ -1,28 +1,38 @@
--- `log_run::inner::run` meets its contract: the windows are a copy, which is dropped where a rule is refused. Assumes nothing.
-use mathlib.Core.Path.{sym, ap, _∙_}
-use Rattle.log_rules.specs.Rules.{rulesIn}
-use Rattle.log_run.specs.declared.Log.{Log}
-use Rattle.log_run.specs.Step.{logAfter}
-use Rattle.log_run.proofs.Stepping.{open-is, ruled-refused, ruled-ran}
+-- `log_run::inner::run` meets its contract. Assumes nothing.
+use mathlib.Core.Path.{sym, subst}
+use Prim.Native.Nat.{ℕ}
 use borrow.Author.Needs.{needs}
+use Rattle.log_rules.specs.Rules.{rulesIn}
+use Rattle.log_rules.specs.Steps.{Lends}
+use Rattle.log_run.specs.Steps.{Takes}
 use Rattle.log_run.proofs.inner.run.Statement.{statement}
 use Rattle.log_run.proofs.inner.run.Tie as tie
 
-slice-aggregate-run-all : tie.Need-slice-aggregate-run-all
-slice-aggregate-run-all c = search needs
+run-one-requires : tie.Need-run-one-requires
+run-one-requires c κs =
+    let s = c .before .before .before .before .before .before .before .before .before .before in
+    let a = s .args in
+    (subst (λ (k : ℕ). Lends (a .nv) (a .w) (rulesIn (a .count) (a .ranks .now) (a .ms .now) (a .windows .now) (a .token-counts .now) (a .ops .now) (a .operands .now)) k (a .records .now)) (c .before .if1 .taken) (s .pre .0 .0), s .pre .0 .1)
 
-run-all-requires : tie.Need-run-all-requires
-run-all-requires c κs = let p = c .before .before .before .before .before .before .before .before .before .pre in ((p .0 .0, (p .0 .1 .0, search needs)), p .1)
+same-length : tie.Need-same-length
+same-length c = search needs
 
 returns : tie.Need-returns
-returns c = let a = c .before .before .before .before .before .before .before .before .before .before .before .before .before .args in let x = c .before .before .before .run-all in ruled-refused (a .nv) (a .w) (rulesIn (a .count) (a .ranks .now) (a .ms .now) (a .windows .now) (a .token-counts .now) (a .ops .now) (a .operands .now)) (a .log) (a .n) (a .records .now) (x .result .refusal) (x .ensures .number) (c .if1 .taken)
+returns c =
+    let a = c .before .before .before .before .before .before .before .before .before .before .before .before .before .args in
+    let x = c .before .before .run-one in
+    subst (λ (k : ℕ). Takes (a .nv) (a .w) (rulesIn (a .count) (a .ranks .now) (a .ms .now) (a .windows .now) (a .token-counts .now) (a .ops .now) (a .operands .now)) (a .records .now) k (a .seen .now) (a .shown) (x .last .0) (x .result)) (sym (c .before .before .before .before .if1 .taken)) (x .ensures)
+
+run-all-requires : tie.Need-run-all-requires
+run-all-requires c κs = search needs
+
+same-length-2 : tie.Need-same-length-2
+same-length-2 c = search needs
 
 returns-2 : tie.Need-returns-2
-returns-2 c = let s = c .before .before .before .before .before .before .before .before .before .before .before .before .before .before in
-    let a = s .args in
-    let x = c .before .before .before .before .run-all in
-    let none = c .before .if1 .left in
-    ruled-ran (a .nv) (a .w) (rulesIn (a .count) (a .ranks .now) (a .ms .now) (a .windows .now) (a .token-counts .now) (a .ops .now) (a .operands .now)) (a .log) (a .n) (a .records .now) _ (sym (x .ensures .number) ∙ none) (x .ensures .log none ∙ ap (λ (y : Log). logAfter (a .nv) (a .w) (rulesIn (a .count) (a .ranks .now) (a .ms .now) (a .windows .now) (a .token-counts .now) (a .ops .now) (a .operands .now)) (a .records .now) y (a .n)) (open-is (a .log) (s .pre .0 .1 .1)))
+returns-2 c = search needs
 
 pub run-spec : {M : Type 1} → statement M
-run-spec = tie.close (tie.spec slice-aggregate-run-all run-all-requires returns returns-2)
+run-spec =
+    tie.close
+    (tie.spec run-one-requires same-length returns run-all-requires same-length-2 returns-2)
