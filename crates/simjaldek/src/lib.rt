@@ -2,6 +2,7 @@
 // A refusal is a number of 01's table, 0 for none; a row is the first sixteen words of its slice, and a shorter slice is refused 4.
 use expr_cost::Cost;
 use listing::ListingAnswer;
+use log_run::Shown;
 use rule_run::RuleState;
 use simjaldek_abi::CostReply;
 use simjaldek_abi::DrawReply;
@@ -358,8 +359,16 @@ pub extern "C" fn simjaldek_run_log(
 ) -> LogReply
     ensures { λ r. ⌜ r ≡ logReply log (logged nv w (rulesIn «rule_count» (now (ranks .entry)) (now (ms .entry)) (now (windows .entry)) (now («token_counts» .entry)) (now (ops .entry)) (now (operands .entry))) (logOf log) n (now (records .entry))) ⌝ }
 {
-    let x = log_run::run_log(
-        replies::log_of(log),
+    let mut seen = log.windows;
+    let x = log_run::inner::take(
+        &mut seen,
+        log.open != 0,
+        Shown {
+            number: log.number,
+            close: log.closed_at,
+            later: log.later,
+            rank: log.rank,
+        },
         rule_count,
         ranks,
         ms,
@@ -372,7 +381,7 @@ pub extern "C" fn simjaldek_run_log(
         n,
         records,
     );
-    replies::of_log(log, x)
+    replies::of_took(log, seen, x)
 }
 
 // `probe_points::make_probe_points`. Refuses 1, 2.
