@@ -1,30 +1,22 @@
--- `simjaldek_run_log` meets its contract: what the call answers for the log out of its numbers, as a reply. Assumes nothing.
+-- `simjaldek_run_log` meets its contract: what is taken of the log out of its numbers, as a reply. Assumes nothing.
 use mathlib.Core.Path.{ap, _∙_}
-use Rattle.log_rules.specs.Rules.{rulesIn}
-use Rattle.log_run.specs.declared.Log.{Log}
-use Rattle.log_run.specs.Step.{logged}
-use Rattle.simjaldek_abi.specs.Reply.{logReply}
 use borrow.Author.Needs.{needs}
+use Rattle.simjaldek_abi.specs.Reply.{logReply}
 use Rattle.simjaldek.proofs.simjaldek_run_log.Statement.{statement}
 use Rattle.simjaldek.proofs.simjaldek_run_log.Tie as tie
 
-log-of-requires : tie.Need-log-of-requires
-log-of-requires c κs = search needs
+slice-aggregate-take : tie.Need-slice-aggregate-take
+slice-aggregate-take c = search needs
 
-run-log-requires : tie.Need-run-log-requires
-run-log-requires c κs = search needs
+take-requires : tie.Need-take-requires
+take-requires c κs = search needs
 
-of-log-requires : tie.Need-of-log-requires
-of-log-requires c κs = search needs
+of-took-requires : tie.Need-of-took-requires
+of-took-requires c κs = search needs
 
 returns : tie.Need-returns
-returns c =
-    let l = c .before .before in
-    let a = l .before .before .before .before .before .before .before .before .args in
-    let rules = rulesIn (a .rule-count) (a .ranks .now) (a .ms .now) (a .windows .now) (a .token-counts .now) (a .ops .now) (a .operands .now) in
-    c .of-log .ensures
-    ∙ ap (logReply (a .log)) (c .before .run-log .ensures)
-    ∙ ap (λ (log : Log). logReply (a .log) (logged (a .nv) (a .w) rules log (a .n) (a .records .now))) (l .log-of .ensures)
+returns c = c .of-took .ensures ∙ ap (logReply (c .before .before .before .before .before .before .before .before .before .before .before .before .before .args .log)) (c .before .before .take .ensures)
 
 pub simjaldek-run-log-spec : {M : Type 1} → statement M
-simjaldek-run-log-spec = tie.close (tie.spec log-of-requires run-log-requires of-log-requires returns)
+simjaldek-run-log-spec =
+    tie.close (tie.spec slice-aggregate-take take-requires of-took-requires returns)
