@@ -381,7 +381,24 @@ pub extern "C" fn simjaldek_run_log(
         n,
         records,
     );
-    replies::of_took(log, seen, x)
+    if x.refusal != 0 {
+        return LogReply {
+            refusal: x.refusal,
+            log,
+        };
+    }
+    let shown = x.shown;
+    LogReply {
+        refusal: 0,
+        log: LogState {
+            open: replies::mark_of(log.open != 0),
+            rank: shown.rank,
+            number: shown.number,
+            closed_at: shown.close,
+            later: shown.later,
+            windows: seen,
+        },
+    }
 }
 
 // `probe_points::make_probe_points`. Refuses 1, 2.

@@ -15,7 +15,6 @@ use expr_eval::Value;
 use index::IndexAnswer;
 use log_run::Log;
 use log_run::Shown;
-use log_run::inner::Took;
 use probe_points::POINT_WORDS;
 use probe_points::POINTS;
 use probe_points::Point;
@@ -33,11 +32,10 @@ ghost use Rattle.bank.specs.Build.{bankSays};
 ghost use Rattle.bank_lookup.specs.Lookup.{foundSays};
 ghost use Rattle.search_candidates.specs.Candidates.{candidatesSay};
 ghost use Rattle.index.specs.Build.{indexSays};
-ghost use Rattle.log_run.specs.Steps.{taken};
 ghost use Rattle.search_product.specs.Answer.{productSays};
 ghost use Rattle.search_residual.specs.Answer.{residualSays};
 ghost use Rattle.simjaldek_abi.specs.Slices.{rowIn, twoShort, gateRefusal};
-ghost use Rattle.simjaldek_abi.specs.Reply.{refusedReply, reply, markOf, numberReply, indexReply, productReply, refusedResidual, completed, residualReply, optionReply, matchReply, wordReply, rowReply, refusedRow, pointWords, gateCall, rowOrElse, tokenParts, tokenReply, logOf, logState, logReply};
+ghost use Rattle.simjaldek_abi.specs.Reply.{refusedReply, reply, markOf, numberReply, indexReply, productReply, refusedResidual, completed, residualReply, optionReply, matchReply, wordReply, rowReply, refusedRow, pointWords, gateCall, rowOrElse, tokenParts, tokenReply, logOf, logState};
 
 // A reply that is only a refusal.
 pub fn refused(refusal: u32) -> Reply
@@ -276,30 +274,6 @@ pub fn log_state(log: Log) -> LogState
         closed_at: shown.close,
         later: shown.later,
         windows,
-    }
-}
-
-// What a call over a log's parts took; beside a refusal the log as it was lent.
-pub fn of_took(lent: LogState, seen: [u64; 8], x: Took) -> LogReply
-    ensures { λ r. ⌜ r ≡ logReply lent (taken (logOf lent) seen x) ⌝ }
-{
-    if x.refusal != 0 {
-        return LogReply {
-            refusal: x.refusal,
-            log: lent,
-        };
-    }
-    let shown = x.shown;
-    LogReply {
-        refusal: 0,
-        log: LogState {
-            open: mark_of(lent.open != 0),
-            rank: shown.rank,
-            number: shown.number,
-            closed_at: shown.close,
-            later: shown.later,
-            windows: seen,
-        },
     }
 }
 
