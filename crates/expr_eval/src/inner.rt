@@ -31,7 +31,7 @@ pub fn eval_over(
         i += 1;
         match t {
             Token::Constant(k) => {
-                stack[sp] = arith::reduce(k, w);
+                stack[sp] = arith::reduce(k, w); // it may have more bits
                 sp += 1;
             }
             Token::Variable(k) => {

@@ -142,7 +142,9 @@ pub struct Window {
 
 /// A closing log: what it shows of the sounding that was opened last, and what each rule's window has seen of it. Any numbers may be handed
 /// in; all zeros, the default, is the empty log, before any opening.
+// laid out as the library's, so that a call's copies go over whole
 #[derive(Clone, Copy, Debug, Default, PartialEq, Eq, Hash)]
+#[repr(C)]
 pub struct LogState {
     /// Whether a sounding is open: 0 for no, any other number for yes; the calls hand back 0 or 1.
     pub open: u32,
