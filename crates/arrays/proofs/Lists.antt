@@ -348,3 +348,7 @@ or-none (some x) = refl
 pub or-false : (b : Bool) → b || false ≡ b
 or-false true = refl
 or-false false = refl
+
+-- the first of one
+pub first-alone : (P : ℕ → Type 0) → P 0 → (k : ℕ) → k < 1 → P k
+first-alone P p k l = subst P (omega arith) p

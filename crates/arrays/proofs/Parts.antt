@@ -8,7 +8,7 @@ use native.Mathlib.Numerals.{add-one}
 use native.Mathlib.Omega.{arith}
 use borrow.Rule.Slice.PartMut.{putMid, post-is}
 use lib.ListN.{length, getD, set, take, drop, length-take, length-drop, length-append}
-use lib.Seq.{getD-take, getD-drop, take-all, take-at, drop-at, length-take-le, drop-drop, take-append-add, drop-append-add, take-add, take-take, take-nil, set-split}
+use lib.Seq.{getD-take, getD-drop, take-all, take-at, drop-at, length-take-le, drop-drop, take-append-add, drop-append-add, take-add, take-take, take-nil, set-split, take-append-le}
 use Rattle.arrays.specs.Parts.{partAt, putPart, encode}
 
 -- ---- one part
@@ -102,6 +102,31 @@ pub part-below : (s : ℕ) (a b : List ℕ) (n : ℕ) → s * n ≤ length a →
 part-below s a b n la lb e t below =
     let h = part-within s t n below in
     part-front s a t (s * n) h la ∙ ap (λ (z : List ℕ). drop (s * t) (take (s * t + s) z)) e ∙ sym (part-front s b t (s * n) h lb)
+
+-- the parts of a list of m, and those of a list after it
+module _ (s : ℕ) (a : List ℕ) (m : ℕ) (long : length a ≡ s * m) where
+  pub part-first : (b : List ℕ) (j : ℕ) → j < m → partAt s (a ++ b) j ≡ partAt s a j
+  part-first b j h = part-below s (a ++ b) a m (omega (arith, length-append a b, long)) (omega (arith, long)) (take-append-le (s * m) a b (omega (arith, long))) j h
+
+  pub part-later : (xs : List ℕ) (n : ℕ) → s * n ≤ length xs → (j : ℕ) → j < n → partAt s xs j ≡ partAt s (a ++ take (s * n) xs) (m + j)
+  unfolding partAt
+  part-later xs n h j l =
+      let t = length-take-le (s * n) xs h in
+      let at : s * (m + j) ≡ length a + s * j = omega (arith, mul-add s m j, long) in
+      sym
+      (ap (λ (k : ℕ). take s (drop k (a ++ take (s * n) xs))) at
+      ∙ ap (take s) (drop-append-add a (take (s * n) xs) (s * j))
+      ∙ part-below s (take (s * n) xs) xs n (omega (arith, t)) h (take-take (s * n) (s * n) xs (omega arith)) j l)
+
+-- part j of parts a to a + b - 1, lent as a slice
+pub part-from : (s : ℕ) (l : List ℕ) (a b : ℕ) → s * a + s * b ≤ length l → (j : ℕ) → j < b → partAt s (take (s * a + s * b - s * a) (drop (s * a) l)) j ≡ partAt s l (a + j)
+unfolding partAt
+part-from s l a b h j g =
+    let size : s * a + s * b - s * a ≡ s * b = omega arith in
+    let long : s * b ≤ length (drop (s * a) l) = omega (arith, length-drop (s * a) l) in
+    ap (λ (k : ℕ). partAt s (take k (drop (s * a) l)) j) size
+    ∙ part-below s (take (s * b) (drop (s * a) l)) (drop (s * a) l) b (omega (arith, length-take-le (s * b) (drop (s * a) l) long)) long (take-take (s * b) (s * b) (drop (s * a) l) (omega arith)) j g
+    ∙ ap (take s) (drop-drop (s * j) (s * a) l ∙ ap (λ (k : ℕ). drop k l) (sym (mul-add s a j)))
 
 -- every part but the one just put
 pub part-put-other : (s : ℕ) (l : List ℕ) (k : ℕ) (xs : List ℕ) → s * k + s ≤ length l → length xs ≡ s → (t : ℕ) → (t < k) ⊎ (k < t) → partAt s (putPart s l k xs) t ≡ partAt s l t

@@ -1,5 +1,5 @@
 -- One turn of the formula test: the test from here on, with the values counted so far, is the test of all. Assumes nothing.
-use mathlib.Core.Path.{_≡_, sym, ap, _∙_}
+use mathlib.Core.Path.{_≡_, sym, ap, _∙_, subst}
 use mathlib.Core.Bool.{Bool, true, false, _||_, or-true}
 use mathlib.Core.List.{List, _∷_}
 use Prim.Native.Nat.{ℕ, _+_, _-_, _≤_, _<_}
@@ -11,7 +11,7 @@ use Rattle.limits.specs.Refusal.{outsideOf}
 use Rattle.expr.specs.declared.Token.{Token}
 use Rattle.expr.specs.Formula.{tokenAt, tokens, known, isFormula, arity}
 use Rattle.expr.proofs.Tokens.{tokens-length, tokens-next}
-use Rattle.expr.proofs.Machine.{passes, passes-unknown, passes-low, passes-ok, passes-end, formula-outside, formula-inside}
+use Rattle.expr.proofs.Machine.{passes, passes-unknown, passes-low, passes-ok, passes-end, formula-outside, formula-inside, passed}
 
 -- the rest from place i, with `depth` values on the stack
 pub record Testing (nv count : ℕ) (ops operands : List ℕ) (depth i : ℕ) : Type 0 where
@@ -61,3 +61,7 @@ module _ (nv count : ℕ) (ops operands : List ℕ) where
         at = omega arith;
         same = sym (passes-ok nv t (drop (i + 1) (tokens count ops operands)) depth u l) ∙ here;
       }
+
+-- a formula that passes has at most 64 tokens
+pub formula-short : (nv count : ℕ) (ops operands : List ℕ) → isFormula nv (tokens count ops operands) ≡ true → count ≤ 64
+formula-short nv count ops operands h = subst (λ (n : ℕ). n ≤ 64) (tokens-length ops operands count) (passed nv (tokens count ops operands) h .most)

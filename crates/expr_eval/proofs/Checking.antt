@@ -12,7 +12,7 @@ use Rattle.limits.specs.Refusal.{refuse, outcome}
 use Rattle.row_gates.specs.Gates.{gateOf}
 use Rattle.row_gates.specs.declared.Gate.{Gate}
 use Rattle.expr.specs.declared.Token.{Token}
-use Rattle.expr.specs.declared.Token.the-variants.{Constant, Variable, Binary, Not, Neg, Bad}
+use Rattle.expr.specs.declared.Token.the-variants.{Constant, Variable, Binary, Not, Neg}
 use Rattle.expr.specs.Formula.{tokenAt, tokens, arity, known, isFormula}
 use Rattle.expr.proofs.Machine.{formula-more}
 use Rattle.expr.proofs.Testing.{Testing, test-few, test-many, test-start, test-end, test-unknown, test-low, test-next}

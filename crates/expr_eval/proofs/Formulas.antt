@@ -1,18 +1,15 @@
--- Laws of values that the crates above cite: the value of f Not, f Neg and f g gate, from those of f and g; its bound; one token by itself; what an answer
--- says. Assumes nothing.
-use mathlib.Core.Path.{_≡_, refl, sym, ap, _∙_, subst}
+-- Laws of values that the crates above cite: the value of f Not, f Neg and f g gate, from those of f and g; its bound; one token by itself. Assumes nothing.
+use mathlib.Core.Path.{_≡_, refl, sym, _∙_, subst}
 use mathlib.Core.Bool.{Bool, true, false}
 use mathlib.Core.List.{List, [], _∷_, _++_}
 use mathlib.Core.Option.{Option, none, some}
-use Prim.Native.Nat.{ℕ, suc, _-_, _%_, _^_, _<_}
-use native.Mathlib.Decide.{decLt}
+use Prim.Native.Nat.{ℕ, _-_, _%_, _^_, _<_}
 use native.Mathlib.Nat.{mod-lt}
 use native.Mathlib.Omega.{arith}
 use lib.ListN.{getD}
 use lib.Pow.{pow-pos}
 use Rattle.arith.specs.Word.{notOf, negOf}
-use Rattle.limits.specs.Refusal.{Outcome, refused, answer, outcome}
-use Rattle.limits.proofs.Refusals.{true-not-false, unless-refused, unless-not}
+use Rattle.limits.proofs.Refusals.{true-not-false}
 use Rattle.row_gates.specs.Gates.{joined, gateOf}
 use Rattle.row_gates.specs.declared.Gate.{Gate}
 use Rattle.row_gates.specs.Facts.{bitwise}
@@ -77,28 +74,3 @@ module _ (w : ℕ) (words : List ℕ) where
       → valueOf w words (f ++ (g ++ (Binary k ∷ []))) ≡ joined k (valueOf w words f) (valueOf w words g)
   value-bit-by-bit nv f g hf hg k i =
       value-gate nv f hf g hg k ∙ reduced-bit-by-bit k i w (valueOf w words f) (valueOf w words g) (value-lt f) (value-lt g)
-
--- ---- what an answer says
-number : Outcome ℕ → ℕ
-number (refused n) = suc n
-number (answer v) = 0
-
-word : Outcome ℕ → ℕ
-word (refused n) = 0
-word (answer v) = v
-
--- a value that an outcome is: nothing is refused
-pub says-word : (v n a : ℕ) → answer v ≡ outcome n a → (n ≡ 0) × (v ≡ a)
-unfolding number word
-says-word v n a e = elim (decLt 0 n) [
-  | yes h ↦ absurd (let f = ap number (e ∙ unless-refused n (answer a) (refused n) h) in omega arith)
-  | no h ↦ let z : n ≡ 0 = omega arith in (z, ap word (e ∙ unless-not n (answer a) (refused n) z))
-]
-
--- a number that an outcome is: it is refused by it
-pub says-refused : (k n a : ℕ) → refused k ≡ outcome n a → (0 < n) × (k ≡ n)
-unfolding number word
-says-refused k n a e = elim (decLt 0 n) [
-  | yes h ↦ (h, (let f = ap number (e ∙ unless-refused n (answer a) (refused n) h) in omega arith))
-  | no h ↦ absurd (let z : n ≡ 0 = omega arith in let f = ap number (e ∙ unless-not n (answer a) (refused n) z) in omega arith)
-]

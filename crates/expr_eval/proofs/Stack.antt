@@ -1,5 +1,6 @@
 -- The stack in an array, and one turn of the evaluator. Assumes nothing.
-use mathlib.Core.Path.{_≡_, refl, sym, ap, ap₂, _∙_, subst}
+use Rattle.expr.proofs.Testing.{formula-short}
+use mathlib.Core.Path.{_≡_, refl, sym, ap, ap₂, _∙_}
 use mathlib.Core.Logic.{_⊎_, inl, inr}
 use mathlib.Core.Bool.{true, _&&_}
 use mathlib.Core.List.{List, [], _∷_}
@@ -45,10 +46,6 @@ value-some nv w words ts h =
     let f = formed ts (passed nv ts h .one) in
     let e = ap (whole (valueAlg w words)) (sym (f .text)) ∙ whole-tree (valueAlg w words) (f .tree) in
     e ∙ sym (ap (λ (x : Option ℕ). some (orElse 0 x)) e)
-
--- a formula that passes has at most 64 tokens
-pub formula-short : (nv count : ℕ) (ops operands : List ℕ) → isFormula nv (tokens count ops operands) ≡ true → count ≤ 64
-formula-short nv count ops operands h = subst (λ (n : ℕ). n ≤ 64) (tokens-length ops operands count) (passed nv (tokens count ops operands) h .most)
 
 -- reading the rest from place i over the first sp places of the array gives the value
 pub record Stage (w : ℕ) (words : List ℕ) (count : ℕ) (ops operands arr : List ℕ) (sp i : ℕ) : Type 0 where

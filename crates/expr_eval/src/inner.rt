@@ -66,7 +66,7 @@ pub fn eval_tokens(w: u32, count: usize, ops: &[u8], operands: &[u64], words: &[
     eval_over(&mut stack, w, count, ops, operands, words)
 }
 
-// ---- tests and evaluates at once: for who evaluates once, and reads each token once
+// ---- testing and evaluating in one pass, for a single evaluation
 
 // The value of the tokens over a stack, or 6 where they are no formula over nv variables.
 fn eval_checked_over(

@@ -1,4 +1,5 @@
 -- A stack of rows as sixteen stacks of words, each of which goes as the evaluator's own. Assumes nothing.
+use Rattle.expr.proofs.Testing.{formula-short}
 use mathlib.Core.Path.{_≡_, refl, sym, ap, ap₂, _∙_, subst}
 use mathlib.Core.Logic.{_⊎_, inl, inr}
 use mathlib.Core.Bool.{true}
@@ -20,7 +21,7 @@ use Rattle.expr.specs.declared.Token.{Token}
 use Rattle.expr.specs.declared.Token.the-variants.{Constant, Variable, Binary, Not, Neg, Bad}
 use Rattle.expr.specs.Formula.{arity, known, tokenAt, tokens, isFormula}
 use Rattle.expr_eval.specs.Value.{valueAlg, valueOf}
-use Rattle.expr_eval.proofs.Stack.{formula-short, Stage, stage-start, stage-end, stage-constant, stage-variable, stage-not, stage-neg, stage-gate, stage-unary, stage-binary, stage-bad, stage-word}
+use Rattle.expr_eval.proofs.Stack.{Stage, stage-start, stage-end, stage-constant, stage-variable, stage-not, stage-neg, stage-gate, stage-unary, stage-binary, stage-bad, stage-word}
 use Rattle.expr_rows.specs.Rows.{leaves, RowsReady}
 
 -- ---- one lane

@@ -2,13 +2,13 @@
 use mathlib.Core.Path.{_≡_, refl, sym, ap, _∙_}
 use mathlib.Core.Logic.{_⊎_, inl, inr}
 use mathlib.Core.Bool.{Bool, true, false, _&&_, _||_, cond}
-use Prim.Native.Nat.{ℕ, _*_, _/_, _≤_, _<_}
+use Prim.Native.Nat.{ℕ, suc, _*_, _/_, _≤_, _<_}
 use native.Mathlib.Decide.{decLt, decLe}
 use native.Mathlib.Nat.{div-lt-iff-lt-mul, lt-of-not-le, mul-comm}
 use native.Mathlib.Omega.{arith}
 use borrow.Author.Tests.{lt-ltb, le-ltb, ltb-false}
 use lib.Dec.{ltb}
-use Rattle.limits.specs.Refusal.{refuse, unlessRefused, outsideOf}
+use Rattle.limits.specs.Refusal.{refuse, unlessRefused, Outcome, refused, answer, outcome, outsideOf}
 
 pub true-not-false : true ≡ false → ⊥
 true-not-false e = let z : _≡_ {A = ℕ} 0 1 = cc in omega arith
@@ -26,6 +26,10 @@ or-here b e = ap (λ (x : Bool). x || b) e
 
 pub or-later : {a : Bool} {b c : Bool} → a ≡ false → b ≡ c → (a || b) ≡ c
 or-later {a} {b} e f = ap (λ (x : Bool). x || b) e ∙ f
+
+pub or-right : (a : Bool) {b : Bool} → b ≡ true → (a || b) ≡ true
+or-right true e = refl
+or-right false e = e
 
 -- what a range test that passed tells
 pub le-or-lt : (a b : ℕ) → (a ≤ b) ⊎ (b < a)
@@ -90,3 +94,24 @@ unless-refused n a b h = ap (λ (t : Bool). cond t b a) (lt-ltb 0 n h)
 
 pub unless-not : {A : Type 0} (n : ℕ) (a b : A) → n ≡ 0 → unlessRefused n a b ≡ a
 unless-not n a b h = ap (λ (t : Bool). cond t b a) (le-ltb 0 n (omega arith))
+
+-- an outcome that is a value: nothing is refused; one that is a number: it is refused by it
+abbrev told : Outcome ℕ → ℕ
+told (refused n) = suc n
+told (answer v) = 0
+
+abbrev word : Outcome ℕ → ℕ
+word (refused n) = 0
+word (answer v) = v
+
+pub outcome-word : (v n a : ℕ) → answer v ≡ outcome n a → (n ≡ 0) × (v ≡ a)
+outcome-word v n a e = elim (decLt 0 n) [
+  | yes h ↦ absurd (let f = ap told (e ∙ unless-refused n (answer a) (refused n) h) in omega arith)
+  | no h ↦ let z : n ≡ 0 = omega arith in (z, ap word (e ∙ unless-not n (answer a) (refused n) z))
+]
+
+pub outcome-refused : (k n a : ℕ) → refused k ≡ outcome n a → (0 < n) × (k ≡ n)
+outcome-refused k n a e = elim (decLt 0 n) [
+  | yes h ↦ (h, (let f = ap told (e ∙ unless-refused n (answer a) (refused n) h) in omega arith))
+  | no h ↦ absurd (let z : n ≡ 0 = omega arith in let f = ap told (e ∙ unless-not n (answer a) (refused n) z) in omega arith)
+]

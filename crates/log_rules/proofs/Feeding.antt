@@ -40,10 +40,6 @@ module _ (f : ℕ → ℕ → ℕ) where
       same : (t : ℕ) → t < k + 1 → k ≤ t → t ≡ k
       same t l a = omega arith
 
--- the first of one
-pub first-alone : (P : ℕ → Type 0) → P 0 → (k : ℕ) → k < 1 → P k
-first-alone P p k l = subst P (omega arith) p
-
 -- ---- rules
 module _ (nv w : ℕ) (rules : Rules) (records seen : List ℕ) (n : ℕ) where
   -- the first i rules went over the records

@@ -11,14 +11,10 @@ use lib.Dec.{ltb, eqb}
 use lib.ListN.{length, getD}
 use Rattle.arrays.proofs.Lists.{bool-cases}
 use Rattle.limits.specs.Refusal.{refuse, outsideOf, badCount, badWidth}
-use Rattle.limits.proofs.Refusals.{true-not-false, or-here, or-later, neither, passed, within, le-or-lt, refused-here, refused-later, parts-few}
+use Rattle.limits.proofs.Refusals.{true-not-false, or-here, or-later, or-right, neither, passed, within, le-or-lt, refused-here, refused-later, parts-few}
 use Rattle.log_rules.specs.Rules.{Rules, rankOf, ruleAt, anyBelow, badFormula, badRange, sameRank, badRanks, shortRules, logRefusal}
 use Rattle.log_rules.specs.Firing.{noRank, lesser, leastRank}
 use Rattle.log_rules.specs.Steps.{formulasRefusal, rulesRefusal, lentRefusal, ruleRefusal, leastNumber, Lends, Ranked}
-
-pub or-right : (a : Bool) {b : Bool} → b ≡ true → (a || b) ≡ true
-or-right true e = refl
-or-right false e = e
 
 same : (i n : ℕ) → n ≤ i → i < suc n → n ≡ i
 same i n h l = omega arith

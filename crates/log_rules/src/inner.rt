@@ -340,7 +340,7 @@ pub fn feed_rules(
 
 // ---- one record
 
-// One rule over one record.
+// One rule over one record. A rule has 64 places: with more tokens claimed it is no formula.
 fn ask_record(
     nv: u32,
     w: u32,

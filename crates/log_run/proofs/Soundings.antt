@@ -7,11 +7,10 @@ use Prim.Native.Nat.{ℕ, _+_, _*_, _≤_, _<_}
 use native.Mathlib.Nat.{eq-zero-or-pos, mul-add, mul-zero}
 use native.Mathlib.Omega.{arith}
 use lib.Dec.{ltb}
-use lib.ListN.{length, take, drop, length-append}
-use lib.Seq.{length-take-le, take-append-le, take-take, drop-append-add}
-use Rattle.arrays.specs.Parts.{partAt}
+use lib.ListN.{length, take, length-append}
+use lib.Seq.{length-take-le}
 use Rattle.arrays.proofs.Lists.{bool-cases}
-use Rattle.arrays.proofs.Parts.{part-below}
+use Rattle.arrays.proofs.Parts.{part-first, part-later}
 use Rattle.limits.specs.Refusal.{unlessRefused}
 use Rattle.limits.proofs.Refusals.{true-not-false, unless-refused, unless-not}
 use Rattle.log_rules.specs.Rules.{Rules, logRefusal}
@@ -20,21 +19,6 @@ use Rattle.log_run.specs.declared.Log.{Log}
 use Rattle.log_run.specs.Step.{logAfter, emptyLog, opened}
 use Rattle.log_run.specs.Facts.{Event, Event.opening, Event.feeding, Sounding, noSounding, newSounding, logOn, logOver, taken, soundingOn, soundingOver, LastSounding}
 use Rattle.log_run.proofs.Stepping.{after-none, after-shut, after-joined, after-same}
-
--- ---- records after records
-module _ (s : ℕ) (a : List ℕ) (m : ℕ) (long : length a ≡ s * m) where
-  part-first : (b : List ℕ) (j : ℕ) → j < m → partAt s (a ++ b) j ≡ partAt s a j
-  part-first b j h = part-below s (a ++ b) a m (omega (arith, length-append a b, long)) (omega (arith, long)) (take-append-le (s * m) a b (omega (arith, long))) j h
-
-  part-later : (xs : List ℕ) (n : ℕ) → s * n ≤ length xs → (j : ℕ) → j < n → partAt s xs j ≡ partAt s (a ++ take (s * n) xs) (m + j)
-  unfolding partAt
-  part-later xs n h j l =
-      let t = length-take-le (s * n) xs h in
-      let at : s * (m + j) ≡ length a + s * j = omega (arith, mul-add s m j, long) in
-      sym
-      (ap (λ (k : ℕ). take s (drop k (a ++ take (s * n) xs))) at
-      ∙ ap (take s) (drop-append-add a (take (s * n) xs) (s * j))
-      ∙ part-below s (take (s * n) xs) xs n (omega (arith, t)) h (take-take (s * n) (s * n) xs (omega arith)) j l)
 
 module _ (nv w : ℕ) (rules : Rules) where
   -- the log of a sounding

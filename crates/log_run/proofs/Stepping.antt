@@ -10,11 +10,10 @@ use native.Mathlib.Omega.{arith}
 use borrow.Author.Tests.{ltb-false, lt-ltb, le-ltb, eq-eqb, ne-eqb}
 use lib.Dec.{ltb, eqb}
 use lib.ListN.{length, getD, take, drop, length-map, length-drop}
-use lib.Seq.{take-take, drop-drop, length-take-le, ext-getD}
+use lib.Seq.{length-take-le, ext-getD}
 use Rattle.arrays.specs.Lists.{countUp}
 use Rattle.arrays.specs.Parts.{partAt}
 use Rattle.arrays.proofs.Lists.{bool-cases, getD-map, getD-count, length-count}
-use Rattle.arrays.proofs.Parts.{part-below}
 use Rattle.limits.specs.Refusal.{unlessRefused}
 use Rattle.limits.proofs.Refusals.{true-not-false, and-both, unless-refused, unless-not}
 use Rattle.log_rules.specs.Rules.{Rules, ruleAt, badRanks, logRefusal}
@@ -26,7 +25,7 @@ use Rattle.log_run.specs.declared.Log.{Log}
 use Rattle.log_run.specs.declared.LogAnswer.{LogAnswer}
 use Rattle.log_run.specs.declared.inner.Took.{Took}
 use Rattle.log_run.specs.Step.{capped, noted, rankOn, windowsOn, stepped, logAfter, logged}
-use Rattle.log_run.specs.Steps.{openLog, Takes, ruled, taken, notedOver}
+use Rattle.log_run.specs.Steps.{openLog, Takes, tookSays, notedOver}
 
 -- ---- what is shown
 pub capped-low : (n : ℕ) → n < 2 ^ 64 → capped n ≡ n
@@ -199,17 +198,14 @@ module _ (nv w : ℕ) (rules : Rules) where
         let c : after ≡ logAfter nv w rules records l (suc n) .windows = windows-are (windowAt nv w rules records (l .windows) (rules .count) (suc n)) after long ew ∙ sym (after-windows n) in
         λ i. record { begun = a i; shown = b i; windows = c i }
 
--- ---- a part of the records
-pub part-from : (s : ℕ) (l : List ℕ) (a b : ℕ) → s * a + s * b ≤ length l → (j : ℕ) → j < b → partAt s (take (s * a + s * b - s * a) (drop (s * a) l)) j ≡ partAt s l (a + j)
-unfolding partAt
-part-from s l a b h j g =
-    let size : s * a + s * b - s * a ≡ s * b = omega arith in
-    let long : s * b ≤ length (drop (s * a) l) = omega (arith, length-drop (s * a) l) in
-    ap (λ (k : ℕ). partAt s (take k (drop (s * a) l)) j) size
-    ∙ part-below s (take (s * b) (drop (s * a) l)) (drop (s * a) l) b (omega (arith, length-take-le (s * b) (drop (s * a) l) long)) long (take-take (s * b) (s * b) (drop (s * a) l) (omega arith)) j g
-    ∙ ap (take s) (drop-drop (s * j) (s * a) l ∙ ap (λ (k : ℕ). drop k l) (sym (mul-add s a j)))
-
 -- ---- the answer
+-- what a run of n records answers where only the rules themselves are still to be tested
+abbrev pub ruled : ℕ → ℕ → Rules → Log → ℕ → List ℕ → LogAnswer
+ruled nv w rules l n records = record {
+  refusal = formulasRefusal nv rules (rules .count);
+  log = unlessRefused (formulasRefusal nv rules (rules .count)) (logAfter nv w rules records l n) l;
+}
+
 module _ (nv w : ℕ) (rules : Rules) (l : Log) (n : ℕ) (records : List ℕ) where
   abbrev number : ℕ
   number = formulasRefusal nv rules (rules .count)
@@ -296,23 +292,23 @@ module _ (l : Log) (after : List ℕ) (x : Took) where
   abbrev whole : Log
   whole = record { windows = after; shown = x .shown; begun = l .begun }
 
-  pub taken-refused : (x .refusal ≡ 0 → ⊥) → _≡_ {A = LogAnswer} (record { refusal = x .refusal; log = l }) (taken l after x)
-  taken-refused h = let same = sym (unless-refused (x .refusal) whole l (omega (arith, h))) in λ i. record { refusal = x .refusal; log = same i }
+  pub took-refused : (x .refusal ≡ 0 → ⊥) → _≡_ {A = LogAnswer} (record { refusal = x .refusal; log = l }) (tookSays l after x)
+  took-refused h = let same = sym (unless-refused (x .refusal) whole l (omega (arith, h))) in λ i. record { refusal = x .refusal; log = same i }
 
-  pub taken-whole : x .refusal ≡ 0 → _≡_ {A = LogAnswer} (record { refusal = 0; log = record { windows = after; shown = x .shown; begun = l .begun } }) (taken l after x)
-  taken-whole z = let same = sym (unless-not (x .refusal) whole l z) in λ i. record { refusal = sym z i; log = same i }
+  pub took-whole : x .refusal ≡ 0 → _≡_ {A = LogAnswer} (record { refusal = 0; log = record { windows = after; shown = x .shown; begun = l .begun } }) (tookSays l after x)
+  took-whole z = let same = sym (unless-not (x .refusal) whole l z) in λ i. record { refusal = sym z i; log = same i }
 
-  pub taken-ruled : (nv w : ℕ) (rules : Rules) (n : ℕ) (records : List ℕ) → l .begun ≡ true → Takes nv w rules records n (l .windows) (l .shown) after x → taken l after x ≡ ruled nv w rules l n records
-  taken-ruled nv w rules n records b t = elim (eq-zero-or-pos (x .refusal)) [
-    | inr p ↦ let h : x .refusal ≡ 0 → ⊥ = (λ z. omega (arith, p, z)) in sym (taken-refused h) ∙ ruled-refused nv w rules l n records (x .refusal) (t .number) h
+  pub took-ruled : (nv w : ℕ) (rules : Rules) (n : ℕ) (records : List ℕ) → l .begun ≡ true → Takes nv w rules records n (l .windows) (l .shown) after x → tookSays l after x ≡ ruled nv w rules l n records
+  took-ruled nv w rules n records b t = elim (eq-zero-or-pos (x .refusal)) [
+    | inr p ↦ let h : x .refusal ≡ 0 → ⊥ = (λ z. omega (arith, p, z)) in sym (took-refused h) ∙ ruled-refused nv w rules l n records (x .refusal) (t .number) h
     | inl z ↦
-        sym (taken-whole z)
+        sym (took-whole z)
         ∙ ruled-ran nv w rules l n records whole (sym (t .number) ∙ z) ((λ i. record { windows = after; shown = x .shown; begun = b i }) ∙ t .log z ∙ ap (λ (y : Log). logAfter nv w rules records y n) (open-is l b))
   ]
 
 -- nothing was
-pub taken-none : (l : Log) (number : ℕ) → _≡_ {A = LogAnswer} (record { refusal = number; log = l }) (taken l (l .windows) (record { shown = l .shown; refusal = number }))
-taken-none l number = elim (eq-zero-or-pos number) [
-  | inr p ↦ taken-refused l (l .windows) (record { shown = l .shown; refusal = number }) (λ z. omega (arith, p, z))
+pub took-none : (l : Log) (number : ℕ) → _≡_ {A = LogAnswer} (record { refusal = number; log = l }) (tookSays l (l .windows) (record { shown = l .shown; refusal = number }))
+took-none l number = elim (eq-zero-or-pos number) [
+  | inr p ↦ took-refused l (l .windows) (record { shown = l .shown; refusal = number }) (λ z. omega (arith, p, z))
   | inl z ↦ let same = sym (unless-not number l l z) in λ i. record { refusal = number; log = same i }
 ]

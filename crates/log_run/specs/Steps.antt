@@ -21,21 +21,14 @@ pub record Takes (nv w : ℕ) (rules : Rules) (records : List ℕ) (n : ℕ) (be
   pub number : took .refusal ≡ formulasRefusal nv rules (rules .count)
   pub log : took .refusal ≡ 0 → openLog after (took .shown) ≡ logAfter nv w rules records (openLog before shown) n
 
--- what a run of n records answers where only the rules themselves are still to be tested
-abbrev pub ruled : ℕ → ℕ → Rules → Log → ℕ → List ℕ → LogAnswer
-ruled nv w rules l n records = record {
-  refusal = formulasRefusal nv rules (rules .count);
-  log = unlessRefused (formulasRefusal nv rules (rules .count)) (logAfter nv w rules records l n) l;
-}
-
 -- what is shown after n records; given is the least rank that fires on each
 unfoldable pub notedOver : (ℕ → ℕ) → Shown → ℕ → Shown
 notedOver rank s zero = s
 notedOver rank s (suc n) = noted (rank n) (notedOver rank s n)
 
--- what a call answers that leaves these windows and took so much: beside a refusal the log as it was
-abbrev pub taken : Log → List ℕ → Took → LogAnswer
-taken l after x = record {
+-- the answer of a call that took x and leaves these windows; beside a refusal the log as it was
+abbrev pub tookSays : Log → List ℕ → Took → LogAnswer
+tookSays l after x = record {
   refusal = x .refusal;
   log = unlessRefused (x .refusal) (record { windows = after; shown = x .shown; begun = l .begun }) l;
 }

@@ -1,4 +1,4 @@
-// The steps of a run, with what was tested.
+// The steps of a run, with what was tested, and the whole call.
 use crate::Shown;
 use log_rules::inner::NO_RANK;
 ghost use mathlib.Core.Path.{_≡_};
@@ -10,14 +10,14 @@ ghost use Rattle.log_rules.specs.Rules.{rulesIn, badRanks};
 ghost use Rattle.log_rules.specs.Firing.{noRank};
 ghost use Rattle.log_rules.specs.Steps.{Lends, Ranked};
 ghost use Rattle.log_run.specs.Step.{capped, noted, logged};
-ghost use Rattle.log_run.specs.Steps.{Takes, taken, notedOver};
+ghost use Rattle.log_run.specs.Steps.{Takes, tookSays, notedOver};
 
 // How many records go at once where there are few of them, and where there are many.
 const FEW: usize = 16;
 
 const MANY: usize = 256;
 
-// What is shown after a part of the records, and the least number by which a rule is refused, 0 for none.
+// What is shown after some records, and the least number that refuses them, 0 for none; beside one what is shown may be anything.
 pub struct Took {
     pub shown: Shown,
     pub refusal: u32,
@@ -354,7 +354,7 @@ fn run_one(
 {
     let x = log_rules::inner::feed_record(
         seen,
-        count, // after a close too
+        count,
         ranks,
         ms,
         windows,
@@ -425,8 +425,7 @@ fn run(
     )
 }
 
-// The whole call over the parts of a log, `seen` being its windows: no array or struct of it is copied on the way. Where it is refused the
-// windows may be any.
+// The whole call over the parts of a log. `seen`, its windows, is changed in place; where the call is refused it may hold anything.
 pub fn take(
     seen: &mut [u64],
     begun: bool,
@@ -444,7 +443,7 @@ pub fn take(
     records: &[u64],
 ) -> Took
     requires { ⌜ length (now seen) ≡ 8 ⌝ }
-    ensures { λ r. ⌜ taken (record { windows = now (seen .entry); shown = shown; begun = begun }) (now (seen .exit)) r ≡ logged nv w (rulesIn count (now (ranks .entry)) (now (ms .entry)) (now (windows .entry)) (now («token_counts» .entry)) (now (ops .entry)) (now (operands .entry))) (record { windows = now (seen .entry); shown = shown; begun = begun }) n (now (records .entry)) ⌝ }
+    ensures { λ r. ⌜ tookSays (record { windows = now (seen .entry); shown = shown; begun = begun }) (now (seen .exit)) r ≡ logged nv w (rulesIn count (now (ranks .entry)) (now (ms .entry)) (now (windows .entry)) (now («token_counts» .entry)) (now (ops .entry)) (now (operands .entry))) (record { windows = now (seen .entry); shown = shown; begun = begun }) n (now (records .entry)) ⌝ }
 {
     let refusal = log_rules::inner::lent_refusal(
         count,

@@ -8,13 +8,11 @@ use borrow.Author.Tests.{lt-ltb, le-ltb}
 use lib.Dec.{ltb}
 use lib.ListN.{length, take, drop}
 use Rattle.arrays.specs.Parts.{partAt}
-use Rattle.limits.specs.Refusal.{refuse, Outcome, refused, answer, outcome, badCount, badWidth}
-use Rattle.limits.proofs.Refusals.{refused-here, refused-later, or-here, or-later}
+use Rattle.limits.specs.Refusal.{refuse, refused, answer, outcome, badCount, badWidth}
+use Rattle.limits.proofs.Refusals.{refused-here, refused-later, or-here, or-later, outcome-word, outcome-refused}
 use Rattle.expr.specs.Answers.{tooShort, notFormula}
-use Rattle.expr_eval.proofs.Formulas.{says-word, says-refused}
 use Rattle.rule_run.specs.declared.RuleState.{RuleState}
-use Rattle.rule_run.specs.declared.RecordAnswer.{RecordAnswer}
-use Rattle.rule_run.specs.Window.{badWindow, tooFew, runRefusal, Ran, ranOr, recordAnswer}
+use Rattle.rule_run.specs.Window.{badWindow, tooFew, runRefusal, ranOr, recordAnswer}
 use Rattle.rule_run.proofs.Feeding.{ran-refused}
 
 -- the first nv words are the first record
@@ -24,10 +22,10 @@ first-record nv words = let e : nv - 0 ≡ nv = omega arith in let z : 0 ≡ nv 
 
 -- a number stays before the rest of a chain, and none leaves it
 pub number-stays : (k n v rest : ℕ) → refused k ≡ outcome n v → refused k ≡ outcome (refuse (ltb 0 n) n rest) v
-number-stays k n v rest e = e ∙ ap (λ (m : ℕ). outcome m v) (sym (refused-here n rest (lt-ltb 0 n (says-refused k n v e .0))))
+number-stays k n v rest e = e ∙ ap (λ (m : ℕ). outcome m v) (sym (refused-here n rest (lt-ltb 0 n (outcome-refused k n v e .0))))
 
 pub number-none : (u n v rest : ℕ) → answer u ≡ outcome n v → refuse (ltb 0 n) n rest ≡ rest
-number-none u n v rest e = let z = says-word u n v e .0 in refused-later n (le-ltb 0 n (omega arith)) refl
+number-none u n v rest e = let z = outcome-word u n v e .0 in refused-later n (le-ltb 0 n (omega arith)) refl
 
 six : (b : Bool) (rest : ℕ) → refuse (ltb 0 (refuse b 6 0)) (refuse b 6 0) rest ≡ refuse b 6 rest
 six true rest = refl
@@ -52,5 +50,5 @@ module _ (nv w count : ℕ) (ops operands : List ℕ) (m window : ℕ) (words : 
 pub record-refused : (mark : ℕ → ℕ) (m window : ℕ) (s : RuleState) (k n v : ℕ) → refused k ≡ outcome n v
     → record { refusal = k; answer = 0; state = s } ≡ recordAnswer (ranOr n mark m window s 1 (0 ∷ []))
 record-refused mark m window s k n v e =
-    let r = says-refused k n v e in
+    let r = outcome-refused k n v e in
     (λ i. record { refusal = (r .1) i; answer = 0; state = s }) ∙ ap recordAnswer (sym (ran-refused mark m window s 1 (0 ∷ []) n (r .0)))

@@ -1,6 +1,6 @@
 -- A rule over a run of records: its answers, its state and its refusals, by counting. Assumes nothing.
 use mathlib.Core.Bool.{Bool, cond, _||_}
-use mathlib.Core.List.{List, map}
+use mathlib.Core.List.{List, [], _∷_, map}
 use Prim.Native.Nat.{ℕ, zero, suc, _+_, _-_, _*_, _/_, _%_, _^_}
 use lib.Dec.{leb, ltb}
 use lib.ListN.{length, getD}
@@ -92,6 +92,10 @@ abbrev pub ran : ℕ → ℕ → ℕ → List ℕ → List ℕ → ℕ → ℕ �
 ran nv w count ops operands m window s n records answers =
     ranOr (runRefusal nv w count ops operands m window n records answers) (markAt nv w (tokens count ops operands) records) m window s n answers
 
--- a call with one record, over an array of one place: what it replies, with its answer
+-- of a call with one record and one place for its answer: the reply and that answer
 abbrev pub recordAnswer : Ran → RecordAnswer
 recordAnswer x = record { refusal = x .reply .refusal; answer = getD (x .answers) 0 0; state = x .reply .state }
+
+-- what `run_record` answers: as `run_rule` does with that record, over a place that holds 0
+abbrev pub ranOne : ℕ → ℕ → ℕ → List ℕ → List ℕ → ℕ → ℕ → RuleState → List ℕ → RecordAnswer
+ranOne nv w count ops operands m window s words = recordAnswer (ran nv w count ops operands m window s 1 words (0 ∷ []))

@@ -3,8 +3,7 @@ pub mod inner;
 
 use expr_eval::Value;
 ghost use mathlib.Core.Path.{_≡_};
-ghost use mathlib.Core.List.{[], _∷_};
-ghost use Rattle.rule_run.specs.Window.{ran, recordAnswer};
+ghost use Rattle.rule_run.specs.Window.{ran, ranOne};
 
 // The widest window.
 pub const MAX_WINDOW: u32 = 64;
@@ -81,7 +80,7 @@ pub fn run_rule(
     }
 }
 
-// `run_rule` with one record: its answer is handed back. For who has them one by one. Refuses 1, 2, 4, 6, 10.
+// `run_rule` with one record, whose answer is handed back, for a caller with single records. Refuses 1, 2, 4, 6, 10.
 pub fn run_record(
     nv: u32,
     w: u32,
@@ -93,7 +92,7 @@ pub fn run_record(
     state: RuleState,
     words: &[u64],
 ) -> RecordAnswer
-    ensures { λ r. ⌜ r ≡ recordAnswer (ran nv w «token_count» (now (ops .entry)) (now (operands .entry)) m window state 1 (now (words .entry)) (0 ∷ [])) ⌝ }
+    ensures { λ r. ⌜ r ≡ ranOne nv w «token_count» (now (ops .entry)) (now (operands .entry)) m window state (now (words .entry)) ⌝ }
 {
     let old = state.past;
     match inner::record_value(nv, w, token_count, ops, operands, m, window, words) {

@@ -1,4 +1,4 @@
-// The static library for Rust and C callers: each public call under a name of its own, over numbers and slices.
+// The static library for Rust and C callers: public calls, each under a name of its own, over numbers and slices.
 // A refusal is a number of 01's table, 0 for none; a row is the first sixteen words of its slice, and a shorter slice is refused 4.
 use expr_cost::Cost;
 use listing::ListingAnswer;
@@ -359,6 +359,7 @@ pub extern "C" fn simjaldek_run_log(
 ) -> LogReply
     ensures { λ r. ⌜ r ≡ logReply log (logged nv w (rulesIn «rule_count» (now (ranks .entry)) (now (ms .entry)) (now (windows .entry)) (now («token_counts» .entry)) (now (ops .entry)) (now (operands .entry))) (logOf log) n (now (records .entry))) ⌝ }
 {
+    // `run_log` itself would copy the log twice more (B78)
     let mut seen = log.windows;
     let x = log_run::inner::take(
         &mut seen,

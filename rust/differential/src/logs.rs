@@ -60,7 +60,8 @@ pub fn compare_call(inputs: &mut Inputs, report: &mut Report) {
     let rules = any_rules(inputs);
     let log = logs::log(inputs, &rules);
     let (any, near) = (inputs.below(100), inputs.one_of(&COUNTS));
-    let n = inputs.one_of(&[any, any, near]) as usize;
+    // a record alone goes its own way
+    let n = inputs.one_of(&[any, any, near, 1]) as usize;
     let records = logs::records(inputs, &rules, n);
     let theirs = (told(&Log::opened()), Ok(told(&log.run(&rules, &records))));
     let ours = (
@@ -146,7 +147,15 @@ fn reach(report: &mut Report, rules: &[Ranked], mut log: Log, records: &[u64]) {
                 "log: the close, after 256 records of a call",
                 closes && place >= 256,
             ),
+            (
+                "log: the close, by the only record of a call",
+                closes && records.len() == num_vars,
+            ),
             ("log: a later firing", later),
+            (
+                "log: a later firing, of the only record of a call",
+                later && records.len() == num_vars,
+            ),
             (
                 "log: a later firing, of several rules",
                 later && ranks.len() > 1,

@@ -1075,6 +1075,16 @@ impl HandedLog {
         for log in [open, any] {
             assert_eq!(number(self.run(log)), refused, "whatever the log");
         }
+        // where the records aren't the fault, a record alone is refused alike
+        if self.count == 2 && self.records.len() >= 2 * self.num_vars as usize {
+            let alone = HandedLog {
+                count: 1,
+                ..self.clone()
+            };
+            for log in [empty, open, any] {
+                assert_eq!(number(alone.run(log)), refused, "a record alone");
+            }
+        }
         refused
     }
 }

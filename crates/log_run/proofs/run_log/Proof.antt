@@ -1,7 +1,7 @@
 -- `log_run::run_log` meets its contract: the windows are a copy, which is dropped where the call is refused. Assumes nothing.
 use mathlib.Core.Path.{_∙_}
 use borrow.Author.Needs.{needs}
-use Rattle.log_run.proofs.Stepping.{taken-refused, taken-whole}
+use Rattle.log_run.proofs.Stepping.{took-refused, took-whole}
 use Rattle.log_run.proofs.run_log.Statement.{statement}
 use Rattle.log_run.proofs.run_log.Tie as tie
 
@@ -15,13 +15,13 @@ returns : tie.Need-returns
 returns c =
     let a = c .before .before .before .before .before .before .before .before .before .before .before .before .before .args in
     let x = c .before .before .before .take in
-    taken-refused (a .log) (x .last .0) (x .result) (c .if1 .taken) ∙ x .ensures
+    took-refused (a .log) (x .last .0) (x .result) (c .if1 .taken) ∙ x .ensures
 
 returns-2 : tie.Need-returns-2
 returns-2 c =
     let a = c .before .before .before .before .before .before .before .before .before .before .before .before .before .before .args in
     let x = c .before .before .before .before .take in
-    taken-whole (a .log) (x .last .0) (x .result) (c .before .if1 .left) ∙ x .ensures
+    took-whole (a .log) (x .last .0) (x .result) (c .before .if1 .left) ∙ x .ensures
 
 pub run-log-spec : {M : Type 1} → statement M
 run-log-spec = tie.close (tie.spec slice-aggregate-take take-requires returns returns-2)

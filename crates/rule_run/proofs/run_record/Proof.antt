@@ -5,10 +5,10 @@ use Prim.Native.Nat.{ℕ}
 use native.Mathlib.Omega.{arith}
 use borrow.Author.Needs.{needs}
 use Rattle.arrays.specs.Parts.{partAt}
+use Rattle.limits.proofs.Refusals.{outcome-word}
 use Rattle.expr.specs.Formula.{tokens}
 use Rattle.expr_eval.specs.Value.{valueOf}
 use Rattle.expr_eval.specs.Answers.{valueSays}
-use Rattle.expr_eval.proofs.Formulas.{says-word}
 use Rattle.rule_run.specs.Window.{markAt, runRefusal, ranOr, recordAnswer}
 use Rattle.rule_run.proofs.Feeding.{ready, mark-is, marks-low}
 use Rattle.rule_run.proofs.Single.{record-refused}
@@ -27,7 +27,7 @@ enum-known-value c = search needs
 feed-record-requires : tie.Need-feed-record-requires
 feed-record-requires c κs =
     let a = c .before .before .before .before .before .before .before .args in
-    let w = says-word _ (runRefusal (a .nv) (a .w) (a .token-count) (a .ops .now) (a .operands .now) (a .m) (a .window) 1 (a .words .now) (0 ∷ [])) (valueOf (a .w) (partAt (a .nv) (a .words .now) 0) (tokens (a .token-count) (a .ops .now) (a .operands .now))) (sym (ap valueSays (c .before .value .given .1)) ∙ c .before .before .before .record-value .ensures) in
+    let w = outcome-word _ (runRefusal (a .nv) (a .w) (a .token-count) (a .ops .now) (a .operands .now) (a .m) (a .window) 1 (a .words .now) (0 ∷ [])) (valueOf (a .w) (partAt (a .nv) (a .words .now) 0) (tokens (a .token-count) (a .ops .now) (a .operands .now))) (sym (ap valueSays (c .before .value .given .1)) ∙ c .before .before .before .record-value .ensures) in
     let r = ready (a .nv) (a .w) (a .token-count) (a .ops .now) (a .operands .now) (a .m) (a .window) 1 (a .words .now) (0 ∷ []) (w .0) in
     (omega (arith, r .0 .least, r .0 .reach), r .0 .most)
 
@@ -39,7 +39,7 @@ returns c =
 returns-2 : tie.Need-returns-2
 returns-2 c =
     let a = c .before .before .before .before .before .before .before .before .args in
-    let w = says-word _ (runRefusal (a .nv) (a .w) (a .token-count) (a .ops .now) (a .operands .now) (a .m) (a .window) 1 (a .words .now) (0 ∷ [])) (valueOf (a .w) (partAt (a .nv) (a .words .now) 0) (tokens (a .token-count) (a .ops .now) (a .operands .now))) (sym (ap valueSays (c .before .before .value .given .1)) ∙ c .before .before .before .before .record-value .ensures) in
+    let w = outcome-word _ (runRefusal (a .nv) (a .w) (a .token-count) (a .ops .now) (a .operands .now) (a .m) (a .window) 1 (a .words .now) (0 ∷ [])) (valueOf (a .w) (partAt (a .nv) (a .words .now) 0) (tokens (a .token-count) (a .ops .now) (a .operands .now))) (sym (ap valueSays (c .before .before .value .given .1)) ∙ c .before .before .before .before .record-value .ensures) in
     let ts = tokens (a .token-count) (a .ops .now) (a .operands .now) in
     c .feed-record .ensures (markAt (a .nv) (a .w) (tokens (a .token-count) (a .ops .now) (a .operands .now)) (a .words .now)) (marks-low (a .nv) (a .w) ts (a .words .now)) (mark-is (a .nv) (a .w) ts (a .words .now) (partAt (a .nv) (a .words .now) 0) 0 _ refl (w .1))
     ∙ ap (λ (n : ℕ). recordAnswer (ranOr n (markAt (a .nv) (a .w) (tokens (a .token-count) (a .ops .now) (a .operands .now)) (a .words .now)) (a .m) (a .window) (a .state) 1 (0 ∷ []))) (sym (w .0))

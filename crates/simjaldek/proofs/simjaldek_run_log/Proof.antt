@@ -5,7 +5,7 @@ use native.Mathlib.Omega.{arith}
 use borrow.Author.Needs.{needs}
 use Rattle.limits.proofs.Refusals.{unless-refused, unless-not}
 use Rattle.log_run.specs.declared.Log.{Log}
-use Rattle.log_run.specs.Steps.{taken}
+use Rattle.log_run.specs.Steps.{tookSays}
 use Rattle.simjaldek_abi.specs.declared.LogState.{LogState}
 use Rattle.simjaldek_abi.specs.declared.LogReply.{LogReply}
 use Rattle.simjaldek_abi.specs.Reply.{logOf, logState, logReply}
@@ -22,8 +22,8 @@ returns : tie.Need-returns
 returns c =
     let a = c .before .before .before .before .before .before .before .before .before .before .before .before .before .before .args in
     let x = c .before .before .before .take in
-    let same = sym (unless-refused (x .result .refusal) (logState (taken (logOf (a .log)) (x .last .0) (x .result) .log)) (a .log) (omega (arith, c .if1 .taken))) in
-    let reply : _≡_ {A = LogReply} (record { refusal = x .result .refusal; log = a .log }) (logReply (a .log) (taken (logOf (a .log)) (x .last .0) (x .result))) =
+    let same = sym (unless-refused (x .result .refusal) (logState (tookSays (logOf (a .log)) (x .last .0) (x .result) .log)) (a .log) (omega (arith, c .if1 .taken))) in
+    let reply : _≡_ {A = LogReply} (record { refusal = x .result .refusal; log = a .log }) (logReply (a .log) (tookSays (logOf (a .log)) (x .last .0) (x .result))) =
     (λ i. record { refusal = x .result .refusal; log = same i }) in
     reply ∙ ap (logReply (a .log)) (x .ensures)
 
@@ -39,8 +39,8 @@ returns-2 c =
     let numbers : ℕ → LogState =
     (λ o. record { «open» = o; rank = x .result .shown .rank; number = x .result .shown .number; «closed_at» = x .result .shown .close; later = x .result .shown .later; windows = x .last .0 }) in
     let same =
-    ap numbers (c .mark-of .ensures) ∙ ap logState (sym (unless-not (x .result .refusal) after (logOf (a .log)) none)) ∙ sym (unless-not (x .result .refusal) (logState (taken (logOf (a .log)) (x .last .0) (x .result) .log)) (a .log) none) in
-    let reply : _≡_ {A = LogReply} (record { refusal = 0; log = numbers (c .mark-of .result) }) (logReply (a .log) (taken (logOf (a .log)) (x .last .0) (x .result))) = (λ i. record { refusal = sym none i; log = same i }) in
+    ap numbers (c .mark-of .ensures) ∙ ap logState (sym (unless-not (x .result .refusal) after (logOf (a .log)) none)) ∙ sym (unless-not (x .result .refusal) (logState (tookSays (logOf (a .log)) (x .last .0) (x .result) .log)) (a .log) none) in
+    let reply : _≡_ {A = LogReply} (record { refusal = 0; log = numbers (c .mark-of .result) }) (logReply (a .log) (tookSays (logOf (a .log)) (x .last .0) (x .result))) = (λ i. record { refusal = sym none i; log = same i }) in
     reply ∙ ap (logReply (a .log)) (x .ensures)
 
 pub simjaldek-run-log-spec : {M : Type 1} → statement M

@@ -1,5 +1,4 @@
 // The calls' answers as replies: an enum's case as a number beside its values; rows, points and tokens by their words. A refusal has zeros beside it.
-use crate::LogReply;
 use crate::LogState;
 use crate::PointWords;
 use crate::Reply;

@@ -28,7 +28,8 @@ pub fn log(inputs: &mut Inputs, report: &mut Report) {
     let mut buffers = RuleBuffers::new(inputs, &rules);
     damage(inputs, &mut buffers, rules.len(), variables, good);
     let count = rule_count(inputs, rules.len());
-    let n = inputs.below(RECORDS);
+    let any = inputs.below(RECORDS);
+    let n = inputs.one_of(&[any, any, 1]);
     let words = length(inputs, u64::from(variables) * n);
     let words = garbage_u64(inputs, words as usize);
     let records = Records {

@@ -1,7 +1,7 @@
 -- `expr_eval::inner::eval_checked_over` meets its contract: the test of the rest is the test of all, and where all passes reading the rest over
 -- what the array holds gives the value. Assumes nothing.
 use mathlib.Core.Path.{_≡_, refl, sym, ap, _∙_}
-use Prim.Native.Nat.{ℕ, _-_, _%_, _≤_, _<_}
+use Prim.Native.Nat.{ℕ, _-_, _%_, _≤_}
 use borrow.Author.Needs.{needs}
 use borrow.Author.Tests.{le-ltb}
 use lib.ListN.{length, getD}

@@ -1,7 +1,7 @@
 -- `expr_eval::inner::eval_tokens` meets its contract: the stack that it lends has room for every token. Assumes nothing.
 use borrow.Author.Needs.{needs}
 use lib.ListN.{length}
-use Rattle.expr_eval.proofs.Stack.{formula-short}
+use Rattle.expr.proofs.Testing.{formula-short}
 use Rattle.expr_eval.proofs.inner.eval_tokens.Statement.{statement}
 use Rattle.expr_eval.proofs.inner.eval_tokens.Tie as tie
 

@@ -1,4 +1,4 @@
--- `log_rules::inner::ask_record` meets its contract. Assumes nothing.
+-- `log_rules::inner::ask_record` meets its contract: more than 64 tokens are 6, else the rule's own promise. Assumes nothing.
 use mathlib.Core.Path.{sym, ap, _∙_}
 use mathlib.Core.List.{[], _∷_}
 use borrow.Author.Needs.{needs}

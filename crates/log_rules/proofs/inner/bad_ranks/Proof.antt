@@ -4,9 +4,9 @@ use mathlib.Core.Bool.{false, _||_}
 use Prim.Native.Nat.{ℕ, _-_, _≤_, _<_}
 use lib.ListN.{getD}
 use Rattle.limits.specs.Refusal.{outsideOf}
-use Rattle.limits.proofs.Refusals.{or-here, or-later}
+use Rattle.limits.proofs.Refusals.{or-here, or-later, or-right}
 use Rattle.log_rules.specs.Rules.{sameRank}
-use Rattle.log_rules.proofs.Tests.{or-right, ranks-outside, ranks-at, ranks-good, below-more}
+use Rattle.log_rules.proofs.Tests.{ranks-outside, ranks-at, ranks-good, below-more}
 use borrow.Author.Needs.{needs}
 use native.Mathlib.Omega.{arith}
 use Rattle.log_rules.proofs.inner.bad_ranks.Statement.{statement}

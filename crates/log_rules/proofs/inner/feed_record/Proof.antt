@@ -2,16 +2,17 @@
 use mathlib.Core.Path.{_≡_, refl, _∙_}
 use mathlib.Core.Bool.{cond}
 use mathlib.Core.List.{[], _∷_}
-use Prim.Native.Nat.{ℕ, _-_, _≤_, _<_}
+use Prim.Native.Nat.{ℕ, _-_, _≤_}
 use native.Mathlib.Omega.{arith}
 use borrow.Author.Needs.{needs}
 use lib.Dec.{eqb}
 use lib.ListN.{length, getD, length-set}
+use Rattle.arrays.proofs.Lists.{first-alone}
 use Rattle.arrays.proofs.Parts.{part-within}
 use Rattle.log_rules.specs.Rules.{rulesIn, ruleAt}
 use Rattle.log_rules.specs.Firing.{noRank, lesser}
 use Rattle.log_rules.specs.Steps.{firesOn}
-use Rattle.log_rules.proofs.Feeding.{Went, went-none, went-more, went-at, went-windows, first-alone}
+use Rattle.log_rules.proofs.Feeding.{Went, went-none, went-more, went-at, went-windows}
 use Rattle.log_rules.proofs.inner.feed_record.Statement.{statement}
 use Rattle.log_rules.proofs.inner.feed_record.Tie as tie
 

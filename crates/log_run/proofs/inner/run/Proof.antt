@@ -1,4 +1,4 @@
--- `log_run::inner::run` meets its contract. Assumes nothing.
+-- `log_run::inner::run` meets its contract: a record by itself, others in parts. Assumes nothing.
 use mathlib.Core.Path.{sym, subst}
 use Prim.Native.Nat.{ℕ}
 use borrow.Author.Needs.{needs}

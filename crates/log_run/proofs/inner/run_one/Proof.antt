@@ -5,9 +5,9 @@ use Prim.Native.Nat.{ℕ}
 use native.Mathlib.Omega.{arith}
 use borrow.Author.Needs.{needs}
 use lib.ListN.{getD}
+use Rattle.arrays.proofs.Lists.{first-alone}
 use Rattle.log_rules.specs.Rules.{rulesIn}
 use Rattle.log_rules.specs.Steps.{rankAt}
-use Rattle.log_rules.proofs.Feeding.{first-alone}
 use Rattle.log_run.specs.Steps.{openLog}
 use Rattle.log_run.proofs.Stepping.{after-is, noted-one}
 use Rattle.log_run.proofs.inner.run_one.Statement.{statement}

@@ -1,4 +1,5 @@
 -- `log_run::inner::run_parts` meets its contract: part after part. Assumes nothing.
+use Rattle.arrays.proofs.Parts.{part-from}
 use mathlib.Core.Path.{_≡_, refl, sym, ap, _∙_}
 use mathlib.Core.List.{List}
 use Prim.Native.Nat.{ℕ, _+_, _-_, _*_, _≤_, _<_}
@@ -8,7 +9,7 @@ use Rattle.log_rules.specs.Steps.{formulasRefusal}
 use Rattle.log_run.specs.declared.Log.{Log}
 use Rattle.log_run.specs.Step.{logAfter}
 use Rattle.log_run.specs.Steps.{openLog}
-use Rattle.log_run.proofs.Stepping.{after-none, after-joined, part-from, fits-part, lends-part}
+use Rattle.log_run.proofs.Stepping.{after-none, after-joined, fits-part, lends-part}
 use borrow.Author.Needs.{needs}
 use native.Mathlib.Omega.{arith}
 use Rattle.log_run.proofs.inner.run_parts.Statement.{statement}

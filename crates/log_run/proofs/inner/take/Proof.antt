@@ -6,7 +6,7 @@ use lib.Dec.{ltb}
 use Rattle.limits.proofs.Refusals.{and-left, and-right}
 use Rattle.log_rules.specs.Rules.{rulesIn}
 use Rattle.log_rules.proofs.Tests.{lends, ranked}
-use Rattle.log_run.proofs.Stepping.{logged-lent, logged-ran, logged-tested, taken-ruled, taken-none}
+use Rattle.log_run.proofs.Stepping.{logged-lent, logged-ran, logged-tested, took-ruled, took-none}
 use Rattle.log_run.proofs.inner.take.Statement.{statement}
 use Rattle.log_run.proofs.inner.take.Tie as tie
 
@@ -16,7 +16,7 @@ lent-refusal-requires c κs = search needs
 returns : tie.Need-returns
 returns c =
     let a = c .before .before .before .before .before .before .before .before .before .before .args in
-    sym (taken-none (record { windows = a .seen .now; shown = a .shown; begun = a .begun }) (c .before .lent-refusal .result)) ∙ logged-lent (a .nv) (a .w) (rulesIn (a .count) (a .ranks .now) (a .ms .now) (a .windows .now) (a .token-counts .now) (a .ops .now) (a .operands .now)) (record { windows = a .seen .now; shown = a .shown; begun = a .begun }) (a .n) (a .records .now) (c .before .lent-refusal .result) (c .before .lent-refusal .ensures) (c .if1 .taken)
+    sym (took-none (record { windows = a .seen .now; shown = a .shown; begun = a .begun }) (c .before .lent-refusal .result)) ∙ logged-lent (a .nv) (a .w) (rulesIn (a .count) (a .ranks .now) (a .ms .now) (a .windows .now) (a .token-counts .now) (a .ops .now) (a .operands .now)) (record { windows = a .seen .now; shown = a .shown; begun = a .begun }) (a .n) (a .records .now) (c .before .lent-refusal .result) (c .before .lent-refusal .ensures) (c .if1 .taken)
 
 feeds-requires : tie.Need-feeds-requires
 feeds-requires c κs =
@@ -41,7 +41,7 @@ returns-2 c =
     let e = sym (c .before .before .before .before .before .feeds .ensures) ∙ c .before .before .before .before .if2 .taken in
     let f = and-right (a .begun) _ e in
     let ranks = not-true _ (and-right (ltb 0 (a .n)) _ f) in
-    taken-ruled (record { windows = a .seen .now; shown = a .shown; begun = a .begun }) _ _ (a .nv) (a .w) (rulesIn (a .count) (a .ranks .now) (a .ms .now) (a .windows .now) (a .token-counts .now) (a .ops .now) (a .operands .now)) (a .n) (a .records .now) (and-left (a .begun) _ e) (c .before .before .run .ensures) ∙ logged-ran (a .nv) (a .w) (rulesIn (a .count) (a .ranks .now) (a .ms .now) (a .windows .now) (a .token-counts .now) (a .ops .now) (a .operands .now)) (record { windows = a .seen .now; shown = a .shown; begun = a .begun }) (a .n) (a .records .now) (sym (c .before .before .before .before .before .before .before .lent-refusal .ensures) ∙ c .before .before .before .before .before .before .if1 .left) ranks
+    took-ruled (record { windows = a .seen .now; shown = a .shown; begun = a .begun }) _ _ (a .nv) (a .w) (rulesIn (a .count) (a .ranks .now) (a .ms .now) (a .windows .now) (a .token-counts .now) (a .ops .now) (a .operands .now)) (a .n) (a .records .now) (and-left (a .begun) _ e) (c .before .before .run .ensures) ∙ logged-ran (a .nv) (a .w) (rulesIn (a .count) (a .ranks .now) (a .ms .now) (a .windows .now) (a .token-counts .now) (a .ops .now) (a .operands .now)) (record { windows = a .seen .now; shown = a .shown; begun = a .begun }) (a .n) (a .records .now) (sym (c .before .before .before .before .before .before .before .lent-refusal .ensures) ∙ c .before .before .before .before .before .before .if1 .left) ranks
 
 rules-refusal-requires : tie.Need-rules-refusal-requires
 rules-refusal-requires c κs =
@@ -51,7 +51,7 @@ rules-refusal-requires c κs =
 returns-3 : tie.Need-returns-3
 returns-3 c =
     let a = c .before .before .before .before .before .before .before .before .before .before .before .before .before .args in
-    sym (taken-none (record { windows = a .seen .now; shown = a .shown; begun = a .begun }) (c .rules-refusal .result)) ∙ logged-tested (a .nv) (a .w) (rulesIn (a .count) (a .ranks .now) (a .ms .now) (a .windows .now) (a .token-counts .now) (a .ops .now) (a .operands .now)) (record { windows = a .seen .now; shown = a .shown; begun = a .begun }) (a .n) (a .records .now) (sym (c .before .before .before .before .lent-refusal .ensures) ∙ c .before .before .before .if1 .left) (sym (c .before .before .feeds .ensures) ∙ c .before .if2 .left) (c .rules-refusal .result) (c .rules-refusal .ensures)
+    sym (took-none (record { windows = a .seen .now; shown = a .shown; begun = a .begun }) (c .rules-refusal .result)) ∙ logged-tested (a .nv) (a .w) (rulesIn (a .count) (a .ranks .now) (a .ms .now) (a .windows .now) (a .token-counts .now) (a .ops .now) (a .operands .now)) (record { windows = a .seen .now; shown = a .shown; begun = a .begun }) (a .n) (a .records .now) (sym (c .before .before .before .before .lent-refusal .ensures) ∙ c .before .before .before .if1 .left) (sym (c .before .before .feeds .ensures) ∙ c .before .if2 .left) (c .rules-refusal .result) (c .rules-refusal .ensures)
 
 pub take-spec : {M : Type 1} → statement M
 take-spec =

@@ -3,9 +3,8 @@ use mathlib.Core.Path.{refl, sym, ap, _∙_}
 use Prim.Native.Nat.{ℕ}
 use borrow.Author.Needs.{needs}
 use Rattle.limits.specs.Refusal.{refuse, outcome}
-use Rattle.limits.proofs.Refusals.{refused-here, refused-later}
+use Rattle.limits.proofs.Refusals.{refused-here, refused-later, outcome-word}
 use Rattle.expr_eval.specs.Answers.{valueSays}
-use Rattle.expr_eval.proofs.Formulas.{says-word}
 use Rattle.rule_run.specs.Window.{badWindow}
 use Rattle.rule_run.proofs.Single.{number-stays, number-none}
 use Rattle.rule_run.proofs.inner.after_window.Statement.{statement}
@@ -36,7 +35,7 @@ returns-3 c =
     let a = c .before .before .before .before .args in
     λ n v e.
     let w = sym (ap valueSays (c .before .before .enum-told2 .given .1)) ∙ e in
-    e ∙ ap (λ (k : ℕ). outcome k v) (says-word _ n v w .0 ∙ sym (number-none _ n v (refuse (badWindow (a .m) (a .window)) 10 0) w ∙ refused-later 10 (sym (c .before .bad-window .ensures) ∙ c .if1 .left) refl))
+    e ∙ ap (λ (k : ℕ). outcome k v) (outcome-word _ n v w .0 ∙ sym (number-none _ n v (refuse (badWindow (a .m) (a .window)) 10 0) w ∙ refused-later 10 (sym (c .before .bad-window .ensures) ∙ c .if1 .left) refl))
 
 pub after-window-spec : {M : Type 1} → statement M
 after-window-spec =

@@ -42,14 +42,20 @@ fn log() -> Log {
     }
 }
 
-/// Records of the words 5, 6, 7, 5 and so on; with a sounding and without one.
+/// Records of the words 5, 6, 7, 5 and so on; with a sounding or without one, a record alone with both.
 fn case(file: &mut DataFile, handed: &RunLog, refusal: u64) {
     assert_eq!(handed.refusal(), refusal);
     let said: &[u64] = if handed.records == 0 { &[] } else { &[5, 6, 7] };
-    let closed = Log { open: 0, ..log() };
-    let log = if handed.n % 2 == 1 { closed } else { log() };
-    let next = run_line(file, handed, &log, said);
-    assert!(refusal == NONE || next == log);
+    let none = Log { open: 0, ..log() };
+    let logs: &[Log] = match handed.n {
+        1 => &[none, log()],
+        n if n % 2 == 1 => &[none],
+        _ => &[log()],
+    };
+    for log in logs {
+        let next = run_line(file, handed, log, said);
+        assert!(refusal == NONE || next == *log);
+    }
 }
 
 /// So many rules of `v0 v1 &` at width 8, three of the last five, with the greatest rank first.
