@@ -1,9 +1,9 @@
 // The rules over records, and what is refused of them, with what was tested.
 use crate::MAX_RULES;
 use expr::MAX_TOKENS;
-use rule_run::RecordAnswer;
 use rule_run::RuleAnswer;
 use rule_run::RuleState;
+use rule_run::inner::RecordAnswer;
 ghost use mathlib.Core.Path.{_≡_};
 ghost use mathlib.Core.Bool.{cond};
 ghost use mathlib.Core.List.{[], _∷_};
@@ -11,7 +11,7 @@ ghost use Prim.Native.Nat.{ℕ, _≤_, _<_};
 ghost use lib.Dec.{eqb};
 ghost use lib.ListN.{length, getD};
 ghost use Rattle.limits.specs.Refusal.{refuse};
-ghost use Rattle.rule_run.specs.Window.{recordAnswer};
+ghost use Rattle.rule_run.specs.Steps.{recordAnswer};
 ghost use Rattle.log_rules.specs.Rules.{rulesIn, ruleIn, sameRank, badRanks, shortRules};
 ghost use Rattle.log_rules.specs.Firing.{noRank, lesser};
 ghost use Rattle.log_rules.specs.Steps.{formulasRefusal, rulesRefusal, lentRefusal, ruleRefusal, leastNumber, Lends, LendsAt, Ranked, ranWithin, firesOn, pastAt, rankAt, windowAt};
@@ -361,7 +361,7 @@ fn ask_record(
             state: RuleState { past },
         };
     }
-    rule_run::run_record(
+    rule_run::inner::run_record(
         nv,
         w,
         token_count,

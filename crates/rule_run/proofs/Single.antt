@@ -12,7 +12,8 @@ use Rattle.limits.specs.Refusal.{refuse, refused, answer, outcome, badCount, ba
 use Rattle.limits.proofs.Refusals.{refused-here, refused-later, or-here, or-later, outcome-word, outcome-refused}
 use Rattle.expr.specs.Answers.{tooShort, notFormula}
 use Rattle.rule_run.specs.declared.RuleState.{RuleState}
-use Rattle.rule_run.specs.Window.{badWindow, tooFew, runRefusal, ranOr, recordAnswer}
+use Rattle.rule_run.specs.Window.{badWindow, tooFew, runRefusal, ranOr}
+use Rattle.rule_run.specs.Steps.{recordAnswer}
 use Rattle.rule_run.proofs.Feeding.{ran-refused}
 
 -- the first nv words are the first record

@@ -1,9 +1,9 @@
 -- A rule over a run of records: its answers, its state and its refusals, by counting. Assumes nothing.
 use mathlib.Core.Bool.{Bool, cond, _||_}
-use mathlib.Core.List.{List, [], _∷_, map}
+use mathlib.Core.List.{List, map}
 use Prim.Native.Nat.{ℕ, zero, suc, _+_, _-_, _*_, _/_, _%_, _^_}
 use lib.Dec.{leb, ltb}
-use lib.ListN.{length, getD}
+use lib.ListN.{length}
 use Rattle.arrays.specs.Lists.{countUp, laid}
 use Rattle.arrays.specs.Parts.{partAt}
 use Rattle.limits.specs.Refusal.{refuse, unlessRefused, outsideOf, badCount, badWidth}
@@ -13,7 +13,6 @@ use Rattle.expr.specs.Answers.{tooShort, notFormula}
 use Rattle.expr_eval.specs.Value.{valueOf}
 use Rattle.rule_run.specs.declared.RuleState.{RuleState}
 use Rattle.rule_run.specs.declared.RuleAnswer.{RuleAnswer}
-use Rattle.rule_run.specs.declared.RecordAnswer.{RecordAnswer}
 
 -- ---- marks
 -- 02, 2.6: its formula was nonzero. A record's mark: 1 where the value isn't 0
@@ -91,11 +90,3 @@ ranOr number mark m window s n answers = record {
 abbrev pub ran : ℕ → ℕ → ℕ → List ℕ → List ℕ → ℕ → ℕ → RuleState → ℕ → List ℕ → List ℕ → Ran
 ran nv w count ops operands m window s n records answers =
     ranOr (runRefusal nv w count ops operands m window n records answers) (markAt nv w (tokens count ops operands) records) m window s n answers
-
--- of a call with one record and one place for its answer: the reply and that answer
-abbrev pub recordAnswer : Ran → RecordAnswer
-recordAnswer x = record { refusal = x .reply .refusal; answer = getD (x .answers) 0 0; state = x .reply .state }
-
--- what `run_record` answers: as `run_rule` does with that record, over a place that holds 0
-abbrev pub ranOne : ℕ → ℕ → ℕ → List ℕ → List ℕ → ℕ → ℕ → RuleState → List ℕ → RecordAnswer
-ranOne nv w count ops operands m window s words = recordAnswer (ran nv w count ops operands m window s 1 words (0 ∷ []))

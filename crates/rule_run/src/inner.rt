@@ -1,6 +1,5 @@
 // The steps of a run, and its refusals.
 use crate::MAX_WINDOW;
-use crate::RecordAnswer;
 use crate::RuleState;
 use expr_eval::Value;
 use row_gates::ROW_WORDS;
@@ -15,8 +14,15 @@ ghost use Rattle.arrays.specs.Parts.{partAt};
 ghost use Rattle.expr.specs.Formula.{tokens};
 ghost use Rattle.expr_eval.specs.Value.{valueOf};
 ghost use Rattle.expr_eval.specs.Answers.{valueSays};
-ghost use Rattle.rule_run.specs.Window.{nonzero, markAt, sumBelow, bitOf, badWindow, tooFew, runRefusal, ranOr, recordAnswer};
-ghost use Rattle.rule_run.specs.Steps.{Ready, Fed};
+ghost use Rattle.rule_run.specs.Window.{nonzero, markAt, sumBelow, bitOf, badWindow, tooFew, runRefusal, ranOr};
+ghost use Rattle.rule_run.specs.Steps.{Ready, Fed, recordAnswer, ranOne};
+
+// The answer to one record and the state that continues the run; beside a refusal 0, and the state as it was.
+pub struct RecordAnswer {
+    pub refusal: u32,
+    pub answer: u8,
+    pub state: RuleState,
+}
 
 // Whether W is not 1 to 64, or M not 1 to W: refusal 10.
 pub fn bad_window(m: u32, window: u32) -> bool
@@ -92,7 +98,7 @@ fn after_window(x: Value, m: u32, window: u32) -> Value
 }
 
 // The formula's value at one record, or the number of the refusal. The tokens are read once.
-pub fn record_value(
+fn record_value(
     nv: u32,
     w: u32,
     count: usize,
@@ -168,7 +174,7 @@ fn feed(answers: &mut [u8], at: usize, value: u64, m: u32, window: u32, past: u6
 }
 
 // The same of one record by itself.
-pub fn feed_record(value: u64, m: u32, window: u32, past: u64) -> RecordAnswer
+fn feed_record(value: u64, m: u32, window: u32, past: u64) -> RecordAnswer
     requires { ⌜ (1 ≤ window) × (window ≤ 64) ⌝ }
     ensures { λ r. ⌜ ((mark : ℕ → ℕ) → ((i : ℕ) → mark i ≤ 1) → mark 0 ≡ nonzero value → r ≡ recordAnswer (ranOr 0 mark m window (record { past = past }) 1 (0 ∷ []))) ⌝ }
 {
@@ -318,4 +324,29 @@ pub fn run(
         n,
         records,
     )
+}
+
+// `run_rule` with one record, whose answer is handed back, for a caller with single records. Refuses 1, 2, 4, 6, 10.
+pub fn run_record(
+    nv: u32,
+    w: u32,
+    token_count: usize,
+    ops: &[u8],
+    operands: &[u64],
+    m: u32,
+    window: u32,
+    state: RuleState,
+    words: &[u64],
+) -> RecordAnswer
+    ensures { λ r. ⌜ r ≡ ranOne nv w «token_count» (now (ops .entry)) (now (operands .entry)) m window state (now (words .entry)) ⌝ }
+{
+    let old = state.past;
+    match record_value(nv, w, token_count, ops, operands, m, window, words) {
+        Value::Refused(refusal) => RecordAnswer {
+            refusal,
+            answer: 0,
+            state,
+        },
+        Value::Word(value) => feed_record(value, m, window, old),
+    }
 }

@@ -1,9 +1,8 @@
 // A rule over a run of records: it fires when its formula was nonzero in at least M of the last W (document 02, 2.6).
 pub mod inner;
 
-use expr_eval::Value;
 ghost use mathlib.Core.Path.{_≡_};
-ghost use Rattle.rule_run.specs.Window.{ran, ranOne};
+ghost use Rattle.rule_run.specs.Window.{ran};
 
 // The widest window.
 pub const MAX_WINDOW: u32 = 64;
@@ -17,13 +16,6 @@ pub struct RuleState {
 // The state that continues the run; as it was beside a refusal.
 pub struct RuleAnswer {
     pub refusal: u32,
-    pub state: RuleState,
-}
-
-// The answer to one record and the state that continues the run; beside a refusal 0, and the state as it was.
-pub struct RecordAnswer {
-    pub refusal: u32,
-    pub answer: u8,
     pub state: RuleState,
 }
 
@@ -77,30 +69,5 @@ pub fn run_rule(
     RuleAnswer {
         refusal,
         state: RuleState { past },
-    }
-}
-
-// `run_rule` with one record, whose answer is handed back, for a caller with single records. Refuses 1, 2, 4, 6, 10.
-pub fn run_record(
-    nv: u32,
-    w: u32,
-    token_count: usize,
-    ops: &[u8],
-    operands: &[u64],
-    m: u32,
-    window: u32,
-    state: RuleState,
-    words: &[u64],
-) -> RecordAnswer
-    ensures { λ r. ⌜ r ≡ ranOne nv w «token_count» (now (ops .entry)) (now (operands .entry)) m window state (now (words .entry)) ⌝ }
-{
-    let old = state.past;
-    match inner::record_value(nv, w, token_count, ops, operands, m, window, words) {
-        Value::Refused(refusal) => RecordAnswer {
-            refusal,
-            answer: 0,
-            state,
-        },
-        Value::Word(value) => inner::feed_record(value, m, window, old),
     }
 }

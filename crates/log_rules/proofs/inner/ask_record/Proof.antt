@@ -3,7 +3,7 @@ use mathlib.Core.Path.{sym, ap, _∙_}
 use mathlib.Core.List.{[], _∷_}
 use borrow.Author.Needs.{needs}
 use borrow.Author.Tests.{lt-ltb, le-ltb}
-use Rattle.rule_run.specs.Window.{recordAnswer}
+use Rattle.rule_run.specs.Steps.{recordAnswer}
 use Rattle.log_rules.proofs.Asking.{either-by}
 use Rattle.log_rules.proofs.inner.ask_record.Statement.{statement}
 use Rattle.log_rules.proofs.inner.ask_record.Tie as tie

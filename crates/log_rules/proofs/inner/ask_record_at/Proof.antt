@@ -4,7 +4,7 @@ use mathlib.Core.List.{[], _∷_}
 use native.Mathlib.Omega.{arith}
 use borrow.Author.Needs.{needs}
 use lib.Dec.{eqb}
-use Rattle.rule_run.specs.declared.RecordAnswer.{RecordAnswer}
+use Rattle.rule_run.specs.declared.inner.RecordAnswer.{RecordAnswer}
 use Rattle.log_rules.proofs.Asking.{at-number, at-state, at-answer}
 use Rattle.log_rules.proofs.inner.ask_record_at.Statement.{statement}
 use Rattle.log_rules.proofs.inner.ask_record_at.Tie as tie

@@ -2,7 +2,7 @@
 use mathlib.Core.Path.{refl, sym, ap}
 use mathlib.Core.List.{[], _∷_}
 use borrow.Author.Needs.{needs}
-use Rattle.rule_run.specs.Window.{recordAnswer}
+use Rattle.rule_run.specs.Steps.{recordAnswer}
 use Rattle.rule_run.proofs.Feeding.{fed-start, ran-answered}
 use Rattle.rule_run.proofs.inner.feed_record.Statement.{statement}
 use Rattle.rule_run.proofs.inner.feed_record.Tie as tie

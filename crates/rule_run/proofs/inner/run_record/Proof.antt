@@ -1,4 +1,4 @@
--- `rule_run::run_record` meets its contract: a refused record changes nothing, and another is fed by the formula's value. Assumes nothing.
+-- `rule_run::inner::run_record` meets its contract: a refused record changes nothing, and another is fed by the formula's value. Assumes nothing.
 use mathlib.Core.Path.{refl, sym, ap, _∙_}
 use mathlib.Core.List.{[], _∷_}
 use Prim.Native.Nat.{ℕ}
@@ -9,11 +9,12 @@ use Rattle.limits.proofs.Refusals.{outcome-word}
 use Rattle.expr.specs.Formula.{tokens}
 use Rattle.expr_eval.specs.Value.{valueOf}
 use Rattle.expr_eval.specs.Answers.{valueSays}
-use Rattle.rule_run.specs.Window.{markAt, runRefusal, ranOr, recordAnswer}
+use Rattle.rule_run.specs.Window.{markAt, runRefusal, ranOr}
+use Rattle.rule_run.specs.Steps.{recordAnswer}
 use Rattle.rule_run.proofs.Feeding.{ready, mark-is, marks-low}
 use Rattle.rule_run.proofs.Single.{record-refused}
-use Rattle.rule_run.proofs.run_record.Statement.{statement}
-use Rattle.rule_run.proofs.run_record.Tie as tie
+use Rattle.rule_run.proofs.inner.run_record.Statement.{statement}
+use Rattle.rule_run.proofs.inner.run_record.Tie as tie
 
 record-value-requires : tie.Need-record-value-requires
 record-value-requires c κs = search needs
