@@ -95,12 +95,12 @@ fn rules() {
     meets(&report, kinds, ("rule: ", 10), &[1, 2, 4, 6, 10]);
 }
 
-/// A run of logs meets every way of a record through an open log, logs that aren't, counters at their ends, and every refusal.
+/// A run of logs meets every way of a record through an open log, also by itself, logs that aren't, counters at their ends, and every refusal.
 #[test]
 fn logs() {
     let report = run_logs(1, LOGS);
     let kinds = [Kind::LogCall, Kind::LogRun, Kind::RefusedLog];
-    meets(&report, kinds, ("log: ", 15), &[1, 2, 4, 6, 10, 11]);
+    meets(&report, kinds, ("log: ", 17), &[1, 2, 4, 6, 10, 11]);
 }
 
 /// A hundred of each kind, no difference, so many things that all came up, and every refusal.

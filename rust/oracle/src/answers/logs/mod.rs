@@ -335,7 +335,7 @@ mod tests {
     #[test]
     fn every_line() {
         let lines = lines();
-        assert!((250..350).contains(&lines.len()), "{}", lines.len());
+        assert!((250..450).contains(&lines.len()), "{}", lines.len());
         for line in &lines {
             assert_eq!(line.0[0], LOGS);
             assert!(line.0.len() <= NUMBERS_MAX);
