@@ -1,4 +1,6 @@
 // Arithmetic on words of w bits, from arith.rs. The modulus is 2^w, and 2^64 for every w above 64, so that no call refuses a width.
+#![tactic(auto)]
+
 ghost use Rattle.std.specs.Prelude.{◌≡◌, ℕ, ◌+◌, ◌-◌, ◌*◌, ◌%◌, ◌^◌, ◌≤◌};
 ghost use Rattle.arith.specs.Word.{modulus, not_of, neg_of, sub_of};
 ghost use Rattle.arith.specs.Cong.{Cong, Inverse};

@@ -1,4 +1,6 @@
 // The bank, built into lent arrays: `try_template_decomposition` of template_decomposer.rs.
+#![tactic(auto)]
+
 pub mod inner;
 
 ghost use Rattle.bank_parts.specs.Parts.{arrays};
@@ -7,7 +9,7 @@ ghost use Rattle.bank.specs.Build.{BankBuilt};
 use probe_points::Point;
 
 // The lengths of the lent arrays.
-#[derive(Drop)]
+#[derive(Clone, Copy)]
 pub struct Sizes {
     pub lengths: usize,
     pub ops: usize,
@@ -18,7 +20,7 @@ pub struct Sizes {
 }
 
 // How many atoms there are, or a number of 01's table.
-#[derive(Drop)]
+#[derive(Clone, Copy)]
 pub enum BankAnswer {
     Built(u32),
     Refused(u32),

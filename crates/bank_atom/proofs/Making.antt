@@ -1,10 +1,9 @@
--- Why the atoms that are made are those of their formulas: text, cost, set and row part by part. Assumes nothing.
+-- Why the atoms that are made are those of their formulas: text, cost and row part by part. Assumes nothing.
 use mathlib.Core.Path.{◌≡◌, refl, sym, ap, ◌∙◌, subst}
 use mathlib.Core.Bool.{Bool, true}
 use mathlib.Core.List.{List, [], ◌∷◌, ◌++◌, map, append_assoc}
 use Prim.Native.Nat.{ℕ, ◌+◌, ◌%◌, ◌^◌, ◌≤◌, ◌<◌}
 use native.Mathlib.Omega.{arith}
-use lib.Bits.{bit_or}
 use lib.ListN.{length, get_or, replicate, length-map}
 use Rattle.arith.specs.Word.{modulus, not_of, neg_of}
 use Rattle.arith.proofs.Remainders.{modulus-is}
@@ -20,8 +19,6 @@ use Rattle.expr_cost.specs.declared.Cost.{Cost}
 use Rattle.expr_cost.specs.declared.CostInfo.{CostInfo}
 use Rattle.expr_cost.specs.Cost.{under_unary, under_gate, is_nonlinear, info_unary, info_of, cost_of, Roomy}
 use Rattle.expr_cost.proofs.Formulas.{info_constant, info_variable, info_not, info_neg, info_gate_lem, cost_roomy}
-use Rattle.expr_vars.specs.Vars.{set_of}
-use Rattle.expr_vars.proofs.Formulas.{set-constant, set-variable, set-not, set-neg, set-gate}
 use Rattle.probe_points.specs.declared.Point.{Point}
 use Rattle.probe.specs.FormulaRow.{row_of}
 use Rattle.probe.proofs.FormulaRows.{length-row_of, get_or-row_of}
@@ -34,14 +31,14 @@ use Rattle.bank_atom.specs.declared.Unary.TheVariants as U
 use Rattle.bank_atom.specs.declared.Entry as Declared
 use Rattle.bank_atom.specs.Entry.{entry_of, text_of, leaf_of, unary_token, unary_of, unary_row, IsConstant, Longer, Joined, GateText, Extends, UnderUnary, Joins, UnderGate}
 
--- ---- text, cost, set and row of an atom
+-- ---- text, cost and row of an atom
 module _ (w : ℕ) (points : List Point) (ts : List Token) where
-  -- an atom by value is its formula's if its four parts are
-  pub entry-is : (r : Declared.Entry) → r.text ≡ text_of ts → r.cost ≡ cost_of ts → r.set ≡ set_of ts → r.row ≡ row_of w points ts → r ≡ entry_of (atom_of w points ts)
+  -- an atom by value is its formula's if its three parts are
+  pub entry-is : (r : Declared.Entry) → r.text ≡ text_of ts → r.cost ≡ cost_of ts → r.row ≡ row_of w points ts → r ≡ entry_of (atom_of w points ts)
   unfolding atom_of ops_part operands_part
-  entry-is r t c s o = λ i. record { text = t i; cost = c i; set = s i; row = o i }
+  entry-is r t c o = λ i. record { text = t i; cost = c i; row = o i }
 
-  -- and the four parts of such an atom
+  -- and the three parts of such an atom
   pub entry-text : {e : Declared.Entry} → e ≡ entry_of (atom_of w points ts) → e.text ≡ text_of ts
   unfolding atom_of ops_part operands_part
   entry-text h = ap (λ (x : Declared.Entry). x.text) h
@@ -50,36 +47,30 @@ module _ (w : ℕ) (points : List Point) (ts : List Token) where
   unfolding atom_of ops_part operands_part
   entry-cost h = ap (λ (x : Declared.Entry). x.cost) h
 
-  pub entry_set : {e : Declared.Entry} → e ≡ entry_of (atom_of w points ts) → e.set ≡ set_of ts
-  unfolding atom_of ops_part operands_part
-  entry_set h = ap (λ (x : Declared.Entry). x.set) h
-
   pub entry_row : {e : Declared.Entry} → e ≡ entry_of (atom_of w points ts) → e.row ≡ row_of w points ts
   unfolding atom_of ops_part operands_part
   entry_row h = ap (λ (x : Declared.Entry). x.row) h
 
 -- ---- one token
 -- what `constant` makes
-pub constant-is : (w v x : ℕ) (r : Declared.Entry) → x ≡ v % 2 ^ w → r ≡ leaf_of 0 v 0 (replicate 16 x) → IsConstant w v r
+pub constant-is : (w v x : ℕ) (r : Declared.Entry) → x ≡ v % 2 ^ w → r ≡ leaf_of 0 v (replicate 16 x) → IsConstant w v r
 unfolding pad_to
 constant-is w v x r ex e = record {
   is = λ points h.
       entry-is w points (Constant v ∷ []) r
       (ap (λ (z : Declared.Entry). z.text) e)
       (ap (λ (z : Declared.Entry). z.cost) e ∙ sym (ap (λ (z : CostInfo). z.cost) (info_constant v)))
-      (ap (λ (z : Declared.Entry). z.set) e ∙ sym (set-constant v))
       (ap (λ (z : Declared.Entry). z.row) e ∙ ap (λ (z : ℕ). replicate 16 z) ex ∙ ap (λ (n : ℕ). replicate n (v % 2 ^ w)) (sym h) ∙ sym (row-constant w points v));
 }
 
 -- what `variable` makes
-pub variable-is : (w i set : ℕ) (points : List Point) (row : List ℕ) (r : Declared.Entry) → row ≡ row_of w points (Variable i ∷ []) → set ≡ 2 ^ i → r ≡ leaf_of 1 i set row
+pub variable-is : (w i : ℕ) (points : List Point) (row : List ℕ) (r : Declared.Entry) → row ≡ row_of w points (Variable i ∷ []) → r ≡ leaf_of 1 i row
     → r ≡ entry_of (atom_of w points (Variable i ∷ []))
 unfolding pad_to
-variable-is w i set points row r er es e =
+variable-is w i points row r er e =
     entry-is w points (Variable i ∷ []) r
     (ap (λ (z : Declared.Entry). z.text) e)
     (ap (λ (z : Declared.Entry). z.cost) e ∙ sym (ap (λ (z : CostInfo). z.cost) (info_variable i)))
-    (ap (λ (z : Declared.Entry). z.set) e ∙ es ∙ sym (set-variable i))
     (ap (λ (z : Declared.Entry). z.row) e ∙ er)
 
 module _ (w i : ℕ) (points : List Point) where
@@ -118,7 +109,7 @@ unary_operand U.Neg = refl
 unary_operand U.Not = refl
 
 module _ (nv : ℕ) (ts : List Token) (f : is_formula nv ts ≡ true) where
-  -- the row, the cost with its mark, and the set of a formula under Neg or Not
+  -- the row, and the cost with its mark, of a formula under Neg or Not
   row_unary : (w : ℕ) (points : List Point) (u : Unary) → unary_row u w (row_of w points ts) ≡ row_of w points (ts ++ (unary_token u ∷ []))
   unfolding unary_row unary_of
   row_unary w points U.Neg = sym (row-neg w nv ts f points)
@@ -128,19 +119,14 @@ module _ (nv : ℕ) (ts : List Token) (f : is_formula nv ts ≡ true) where
   info_unary_lem U.Neg = info_neg nv ts f
   info_unary_lem U.Not = info_not nv ts f
 
-  set_unary : (u : Unary) → set_of (ts ++ (unary_token u ∷ [])) ≡ set_of ts
-  set_unary U.Neg = set-neg nv ts f
-  set_unary U.Not = set-not nv ts f
-
 -- what `under_unary` makes
 pub under_unary_is : (w opcode : ℕ) (u : Unary) (e r : Declared.Entry) → opcode ≡ opcode_of (unary_token u) → Longer e.text opcode r.text
-    → r.cost ≡ under_unary e.cost → r.set ≡ e.set → r.row ≡ unary_row u w e.row → UnderUnary w u e r
-under_unary_is w opcode u e r eo text cost set row = record {
+    → r.cost ≡ under_unary e.cost → r.row ≡ unary_row u w e.row → UnderUnary w u e r
+under_unary_is w opcode u e r eo text cost row = record {
   is = λ nv points ts f h.
       entry-is w points (ts ++ (unary_token u ∷ [])) r
       (text.is ts (unary_token u) (entry-text w points ts h) eo (unary_operand u))
       (cost ∙ ap under_unary (entry-cost w points ts h) ∙ sym (ap (λ (z : CostInfo). z.cost) (info_unary_lem nv ts f u)))
-      (set ∙ entry_set w points ts h ∙ sym (set_unary nv ts f u))
       (row ∙ ap (unary_row u w) (entry_row w points ts h) ∙ row_unary nv ts f w points u);
 }
 
@@ -160,13 +146,12 @@ module _ (nv : ℕ) (ts us : List Token) (f : is_formula nv ts ≡ true) (k : is
 
 -- what `under_gate` makes
 pub under_gate-is : (w : ℕ) (g : Gate) (x y : Bool) (a b r : Declared.Entry) → GateText g a.text b.text r.text
-    → r.cost ≡ under_gate (is_nonlinear g x y) a.cost b.cost → r.set ≡ bit_or a.set b.set → r.row ≡ gate_row g w a.row b.row → UnderGate w g x y a b r
-under_gate-is w g x y a b r text cost set row = record {
+    → r.cost ≡ under_gate (is_nonlinear g x y) a.cost b.cost → r.row ≡ gate_row g w a.row b.row → UnderGate w g x y a b r
+under_gate-is w g x y a b r text cost row = record {
   is = λ nv points ts us f k ex ey ea eb.
       entry-is w points (ts ++ (us ++ (Binary g ∷ []))) r
       (text.is ts us (entry-text w points ts ea) (entry-text w points us eb))
       (cost ∙ cost-gate nv ts us f k g x y a.cost b.cost ex ey (entry-cost w points ts ea) (entry-cost w points us eb))
-      (set ∙ (λ i. bit_or (entry_set w points ts ea i) (entry_set w points us eb i)) ∙ sym (set-gate nv ts f us k g))
       (row ∙ (λ i. gate_row g w (entry_row w points ts ea i) (entry_row w points us eb i)) ∙ sym (row-gate w nv ts f us k g points));
 }
 

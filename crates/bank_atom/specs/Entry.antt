@@ -14,12 +14,11 @@ use Rattle.bank_atom.specs.declared.Unary.{Unary}
 use Rattle.bank_atom.specs.declared.Unary.TheVariants as U
 use Rattle.bank_atom.specs.declared.Entry as Declared
 
--- 01, From heap ..: per atom one length, 6 opcodes, 6 operands, 3 cost numbers and 16 row words; 02, 2.8: and one set
+-- 01, From heap ..: per atom one length, 6 opcodes, 6 operands, 3 cost numbers and 16 row words
 abbrev pub entry_of : Atom → Declared.Entry
 entry_of a = record {
   text = record { len = length a.form; ops = ops_part a; operands = operands_part a };
   cost = a.cost;
-  set = a.set;
   row = a.row;
 }
 
@@ -28,16 +27,15 @@ abbrev pub text_of : List Token → Formula
 text_of ts = record { len = length ts; ops = pad_to 6 255 (map opcode_of ts); operands = pad_to 6 0 (map operand_of ts) }
 
 -- ---- one token
--- an atom of one token, whose opcode, operand, set and row are given; 01, expr_cost.rs: a leaf costs (1, 0, 1)
-abbrev pub leaf_of : ℕ → ℕ → ℕ → List ℕ → Declared.Entry
-leaf_of opcode operand set row = record {
+-- an atom of one token, whose opcode, operand and row are given; 01, expr_cost.rs: a leaf costs (1, 0, 1)
+abbrev pub leaf_of : ℕ → ℕ → List ℕ → Declared.Entry
+leaf_of opcode operand row = record {
   text = record {
     len = 1;
     ops = opcode ∷ (255 ∷ (255 ∷ (255 ∷ (255 ∷ (255 ∷ [])))));
     operands = operand ∷ (0 ∷ (0 ∷ (0 ∷ (0 ∷ (0 ∷ [])))));
   };
   cost = leaf_cost;
-  set = set;
   row = row;
 }
 

@@ -17,8 +17,8 @@ use row_gates::{Gate, ROW_WORDS};
 // ---- atoms
 
 // An atom whose formula is one token.
-fn leaf(opcode: u8, operand: u64, set: u8, row: [u64; 16]) -> Entry
-    ensures { result ≡ leaf_of opcode operand set row }
+fn leaf(opcode: u8, operand: u64, row: [u64; 16]) -> Entry
+    ensures { result ≡ leaf_of opcode operand row }
 {
     let text = Formula {
         len: 1,
@@ -30,12 +30,7 @@ fn leaf(opcode: u8, operand: u64, set: u8, row: [u64; 16]) -> Entry
         products: 0,
         depth: 1,
     };
-    Entry {
-        text,
-        cost,
-        set,
-        row,
-    }
+    Entry { text, cost, row }
 }
 
 // The atom of a constant: its row needs no points.
@@ -45,7 +40,7 @@ pub fn constant(w: u32, v: u64) -> Entry
 {
     let word = arith::reduce(v, w);
     let row = [word; ROW_WORDS];
-    leaf(0, v, 0, row)
+    leaf(0, v, row)
 }
 
 fn variable_row(w: u32, points: [Point; 16], i: usize) -> [u64; 16]
@@ -68,7 +63,7 @@ pub fn variable(w: u32, points: [Point; 16], i: u32) -> Entry
     ensures { result ≡ entry_of (atom_of w points (Variable i ∷ [])) }
 {
     let row = variable_row(w, points, i as usize);
-    leaf(1, i as u64, expr_vars::inner::variable_set(i), row)
+    leaf(1, i as u64, row)
 }
 
 // One token more, whose operand is 0.
@@ -154,12 +149,7 @@ pub fn under_unary(e: Entry, u: Unary, w: u32) -> Entry
     let text = with_token(below, unary_opcode(u));
     let cost = below_cost.under_unary();
     let row = unary_row(below_row, u, w);
-    Entry {
-        text,
-        cost,
-        set: e.set,
-        row,
-    }
+    Entry { text, cost, row }
 }
 
 // The opcode of a gate.
@@ -213,12 +203,7 @@ pub fn under_gate(a: Entry, b: Entry, g: Gate, left: bool, right: bool, w: u32) 
     let text = gate_text(a_text, b_text, g);
     let cost = gate_cost(a_cost, b_cost, g, left, right);
     let row = row_gates::inner::gate_row(a_row, b_row, g, w);
-    Entry {
-        text,
-        cost,
-        set: a.set | b.set,
-        row,
-    }
+    Entry { text, cost, row }
 }
 
 // ---- the seeds

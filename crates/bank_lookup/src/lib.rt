@@ -1,4 +1,6 @@
 // A row found in a lent bank, and a row handed back.
+#![tactic(auto)]
+
 ghost use Rattle.std.specs.Prelude.{◌≡◌, ◌*◌, ◌≤◌, length};
 ghost use Rattle.limits.specs.Refusal.{answer};
 ghost use Rattle.bank_lookup.specs.Lookup.{found, found_says, handed_back, least_from};
@@ -8,7 +10,7 @@ use row_gates::ROW_WORDS;
 use row_lent::AtomSlot;
 
 // 01, Also added: the least slot, or none; or the refusal.
-#[derive(Drop)]
+#[derive(Clone, Copy)]
 pub enum FoundRow {
     At(AtomSlot),
     Nothing,

@@ -1,4 +1,6 @@
 // One atom pushed into the bank's five lent arrays and the map of its rows: `push` of template_decomposer.rs.
+#![tactic(auto)]
+
 pub mod inner;
 
 use limits::ATOMS_MAX;

@@ -1,4 +1,4 @@
--- Laws of the six arrays: a part always has its stride's length, so that a bank with one atom replaced, or with one more, is the same arrays with one part put;
+-- Laws of the five arrays: a part always has its stride's length, so that a bank with one atom replaced, or with one more, is the same arrays with one part put;
 -- and what was written is read back. Assumes nothing.
 use mathlib.Core.Path.{◌≡◌, refl, sym, ap, ap₂, ◌∙◌}
 use mathlib.Core.List.{List, [], ◌∷◌, ◌++◌, map}
@@ -14,7 +14,7 @@ use Rattle.expr.specs.declared.Token.TheVariants.{Bad}
 use Rattle.expr.specs.Formula.{token_of, opcode_of, operand_of, token_at, tokens}
 use Rattle.expr.proofs.Tokens.{token_in, token_back}
 use Rattle.bank_spec.specs.Push.{Atom, no_atom}
-use Rattle.bank_spec.specs.Encoding.{pad_to, length_part, ops_part, operands_part, cost_numbers, cost_part, set_part, row_part, Arrays, written}
+use Rattle.bank_spec.specs.Encoding.{pad_to, length_part, ops_part, operands_part, cost_numbers, cost_part, row_part, Arrays, written}
 
 -- ---- padding
 -- a padded list has the length asked for, whatever the list
@@ -84,10 +84,6 @@ operands-wide a = length_pad 6 0 (map operand_of a.form)
 pub cost-wide : (a : Atom) → length (cost_part a) ≡ 3
 cost-wide a = refl
 
--- one set
-pub set-wide : (a : Atom) → length (set_part a) ≡ 1
-set-wide a = refl
-
 -- 16 row words
 pub row-wide : (a : Atom) → length (row_part a) ≡ 16
 unfolding row_part
@@ -117,7 +113,7 @@ pub spread_none : (s : ℕ) (part : Atom → List ℕ) (old : List ℕ) → spre
 unfolding encode
 spread_none s part old = let e : s * 0 ≡ 0 = omega arith in rw e
 
--- ---- the six arrays
+-- ---- the five arrays
 -- an atom put in slot k of the arrays
 abbrev pub put_atom : Arrays → ℕ → Atom → Arrays
 put_atom arrays k a = record {
@@ -125,13 +121,11 @@ put_atom arrays k a = record {
   ops = put_part 6 arrays.ops k (ops_part a);
   operands = put_part 6 arrays.operands k (operands_part a);
   costs = put_part 3 arrays.costs k (cost_part a);
-  sets = put_part 1 arrays.sets k (set_part a);
   rows = put_part 16 arrays.rows k (row_part a);
 }
 
-arrays-are : (x y : Arrays)
-    → x.lengths ≡ y.lengths → x.ops ≡ y.ops → x.operands ≡ y.operands → x.costs ≡ y.costs → x.sets ≡ y.sets → x.rows ≡ y.rows → x ≡ y
-arrays-are x y p q r s t u = λ i. record { lengths = p i; ops = q i; operands = r i; costs = s i; sets = t i; rows = u i }
+arrays-are : (x y : Arrays) → x.lengths ≡ y.lengths → x.ops ≡ y.ops → x.operands ≡ y.operands → x.costs ≡ y.costs → x.rows ≡ y.rows → x ≡ y
+arrays-are x y p q r s t = λ i. record { lengths = p i; ops = q i; operands = r i; costs = s i; rows = t i }
 
 -- a bank of no atoms leaves the arrays as they were
 pub written_none : (old : Arrays) → written [] old ≡ old
@@ -141,7 +135,6 @@ written_none old =
     (spread_none 6 ops_part old.ops)
     (spread_none 6 operands_part old.operands)
     (spread_none 3 cost_part old.costs)
-    (spread_none 1 set_part old.sets)
     (spread_none 16 row_part old.rows)
 
 module _ (bank : List Atom) (old : Arrays) (a : Atom) where
@@ -153,7 +146,6 @@ module _ (bank : List Atom) (old : Arrays) (a : Atom) where
       (spread-set 6 ops_part ops-wide bank old.ops k a h)
       (spread-set 6 operands_part operands-wide bank old.operands k a h)
       (spread-set 3 cost_part cost-wide bank old.costs k a h)
-      (spread-set 1 set_part set-wide bank old.sets k a h)
       (spread-set 16 row_part row-wide bank old.rows k a h)
 
   -- one atom more
@@ -164,7 +156,6 @@ module _ (bank : List Atom) (old : Arrays) (a : Atom) where
       (spread-add 6 ops_part ops-wide bank old.ops a)
       (spread-add 6 operands_part operands-wide bank old.operands a)
       (spread-add 3 cost_part cost-wide bank old.costs a)
-      (spread-add 1 set_part set-wide bank old.sets a)
       (spread-add 16 row_part row-wide bank old.rows a)
 
 -- ---- reading back
@@ -193,21 +184,13 @@ form-back a h = tokens-are (ops_part a) (operands_part a) a.form at (length a.fo
 
 -- ---- slot k of the arrays is atom k of the bank
 module _ (bank : List Atom) (old : Arrays) (k : ℕ) (h : k < length bank) where
-  -- its number in an array of one number an atom
-  one_at : (part : Atom → List ℕ) → ((a : Atom) → length (part a) ≡ 1) → (l : List ℕ) → get_or (spread 1 part bank l) k 0 ≡ get_or (part (get_or bank k no_atom)) 0 0
-  one_at part wide l =
-      let e : 1 * k + 0 ≡ k = omega arith in
-      ap (λ (m : ℕ). get_or (spread 1 part bank l) m 0) (sym e)
-      ∙ sym (get_d_part 1 (spread 1 part bank l) k 0 (omega arith))
-      ∙ ap (λ (x : List ℕ). get_or x 0 0) (spread_part 1 part wide bank l k h)
-
   -- its token count
   pub length_at : get_or (written bank old).lengths k 0 ≡ length (get_or bank k no_atom).form
-  length_at = one_at length_part length-wide old.lengths
-
-  -- the set of its variables
-  pub set_at : get_or (written bank old).sets k 0 ≡ (get_or bank k no_atom).set
-  set_at = one_at set_part set-wide old.sets
+  length_at =
+      let e : 1 * k + 0 ≡ k = omega arith in
+      ap (λ (m : ℕ). get_or (written bank old).lengths m 0) (sym e)
+      ∙ sym (get_d_part 1 (written bank old).lengths k 0 (omega arith))
+      ∙ ap (λ (l : List ℕ). get_or l 0 0) (spread_part 1 length_part length-wide bank old.lengths k h)
 
   -- its opcodes
   pub ops-at : part_at 6 (written bank old).ops k ≡ ops_part (get_or bank k no_atom)

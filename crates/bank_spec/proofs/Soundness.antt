@@ -63,7 +63,7 @@ module _ (nv w : ℕ) (points : List Point) where
   -- a formula that fits makes a fine atom
   pub atom_fine : (n : ℕ) (ts : List Token) → Fits nv n ts → Fine nv w points n (atom_of w points ts)
   unfolding atom_of
-  atom_fine n ts f = record { sound = record { row = refl; cost = refl; set = refl; formula = f.formula }; size = f.size }
+  atom_fine n ts f = record { sound = record { row = refl; cost = refl; formula = f.formula }; size = f.size }
 
   -- and a fine atom's formula fits
   pub fine_fits : (n : ℕ) (a : Atom) → Fine nv w points n a → Fits nv n a.form

@@ -1,4 +1,4 @@
--- From a list of atoms to 01's five arrays and 02's sixth. Assumes nothing.
+-- From a list of atoms to 01's five arrays. Assumes nothing.
 use Rattle.std.specs.Prelude.{List, [], ◌∷◌, map, ℕ, zero, suc, length}
 use Rattle.arrays.specs.Parts.{spread}
 use Rattle.expr.specs.Formula.{opcode_of, operand_of}
@@ -29,21 +29,16 @@ cost_numbers c = c.size ∷ (c.products ∷ (c.depth ∷ []))
 abbrev pub cost_part : Atom → List ℕ
 cost_part a = cost_numbers a.cost
 
--- 02, 2.8: one byte, the set of its variables
-abbrev pub set_part : Atom → List ℕ
-set_part a = a.set ∷ []
-
 unfoldable pub row_part : Atom → List ℕ
 unfolding pad_to
 row_part a = pad_to 16 0 a.row
 
--- 01, From heap ..: the lent arrays; 02, 2.8: and that of the sets
+-- 01, From heap ..: the five lent arrays
 pub record Arrays : Type 0 where
   pub lengths : List ℕ
   pub ops : List ℕ
   pub operands : List ℕ
   pub costs : List ℕ
-  pub sets : List ℕ
   pub rows : List ℕ
 
 -- 01, Places beyond the counts in a lent output stay unchanged: the arrays that hold the bank, over what they held before
@@ -53,6 +48,5 @@ written bank old = record {
   ops = spread 6 ops_part bank old.ops;
   operands = spread 6 operands_part bank old.operands;
   costs = spread 3 cost_part bank old.costs;
-  sets = spread 1 set_part bank old.sets;
   rows = spread 16 row_part bank old.rows;
 }

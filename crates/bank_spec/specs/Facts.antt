@@ -4,7 +4,6 @@ use Rattle.limits.specs.Limits.{atoms_max}
 use Rattle.expr.specs.declared.Token.TheVariants.{Constant, Not, Neg}
 use Rattle.expr.specs.Formula.{is_formula}
 use Rattle.expr_cost.specs.Cost.{cost_of}
-use Rattle.expr_vars.specs.Vars.{set_of}
 use Rattle.probe_points.specs.declared.Point.{Point}
 use Rattle.probe.specs.FormulaRow.{row_of}
 use Rattle.bank_spec.specs.Push.{Atom, no_atom, push_all, turns}
@@ -17,12 +16,10 @@ pub record Holds (bank : List Atom) (row : List ℕ) : Type 0 where
   pub below : slot < length bank
   pub same : (get_or bank slot no_atom).row ≡ row
 
--- 01, Bank, of one atom: its row is its formula's row at the points, its cost the formula's cost, and the formula passes the test; 02, 2.8: its set is the
--- formula's
+-- 01, Bank, of one atom: its row is its formula's row at the points, its cost the formula's cost, and the formula passes the test
 pub record SoundAtom (nv w : ℕ) (points : List Point) (a : Atom) : Type 0 where
   pub row : a.row ≡ row_of w points a.form
   pub cost : a.cost ≡ cost_of a.form
-  pub set : a.set ≡ set_of a.form
   pub formula : is_formula nv a.form ≡ true
 
 -- 01, Bank: at most 479 atoms, each of weighted size at most 6 and so of at most 6 tokens; no two share a row

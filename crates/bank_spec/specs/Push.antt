@@ -5,28 +5,25 @@ use Rattle.expr.specs.declared.Token.{Token}
 use Rattle.expr.specs.declared.Token.TheVariants.{Constant}
 use Rattle.expr_cost.specs.declared.Cost.{Cost}
 use Rattle.expr_cost.specs.Cost.{no_cost, cost_of, is_better}
-use Rattle.expr_vars.specs.Vars.{set_of}
 use Rattle.probe_points.specs.declared.Point.{Point}
 use Rattle.probe.specs.FormulaRow.{row_of}
 
--- 01, From heap ..: per atom its formula, its cost and its row; 02, 2.8: and the set of its variables
+-- 01, From heap ..: per atom its formula, its cost and its row
 pub record Atom : Type 0 where
   pub form : List Token
   pub cost : Cost
-  pub set : ℕ
   pub row : List ℕ
 
--- what a formula is as an atom: its cost, the set of its variables, and its row at the points
+-- what a formula is as an atom: its cost, and its row at the points
 unfoldable pub atom_of : ℕ → List Point → List Token → Atom
-unfolding set_of row_of
-atom_of w points ts = record { form = ts; cost = cost_of ts; set = set_of ts; row = row_of w points ts }
+unfolding row_of
+atom_of w points ts = record { form = ts; cost = cost_of ts; row = row_of w points ts }
 
 -- what stands past the bank's end
 abbrev pub no_atom : Atom
-no_atom = record { form = []; cost = no_cost; set = 0; row = [] }
+no_atom = record { form = []; cost = no_cost; row = [] }
 
--- 01, Bank: a row already held replaces that slot's formula and cost exactly if strictly better; a new row gets the next slot. 02, 2.8: a replaced formula brings
--- its own set
+-- 01, Bank: a row already held replaces that slot's formula and cost exactly if strictly better; a new row gets the next slot
 unfoldable pub push : List Atom → Atom → List Atom
 unfolding same_row is_better
 push [] a = a ∷ []

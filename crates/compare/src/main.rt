@@ -1,6 +1,8 @@
 // The comparing program: reads each data file that its arguments name, asks our own calls for each line's answer, and writes
 // how many answers it compared and how many differ. A line that differs is named on standard error. After a line of kind 20 or
 // 25 come the bytes of a case, which isn't made of lines.
+#![tactic(auto)]
+
 ghost use Rattle.std.specs.Prelude.{◌≤◌, length};
 
 use compare_lines::inner::scan;
@@ -9,14 +11,14 @@ use compare_texts::Case;
 
 const LINE_NUMBERS: usize = 512;
 
-#[derive(Drop)]
+#[derive(Clone, Copy)]
 struct Tally {
     lines: u64,
     compared: u64,
     different: u64,
 }
 
-#[derive(Drop)]
+#[derive(Clone, Copy)]
 struct Progress {
     scan: Scan,
     case: Case,
@@ -25,7 +27,7 @@ struct Progress {
     state: u8,
 }
 
-#[derive(Drop)]
+#[derive(Clone, Copy)]
 struct Argument {
     given: bool,
     tally: Tally,

@@ -1,4 +1,6 @@
 // Lines about banks, and about the index of a bank. crates/compare/data/banks.txt and indexes.txt tell what stands in them.
+#![tactic(auto)]
+
 pub mod inner;
 
 ghost use Rattle.std.specs.Prelude.{◌+◌, ◌≤◌, length};

@@ -1,4 +1,6 @@
 // Lines about candidates. crates/compare/data/searches.txt tells what stands in them.
+#![tactic(auto)]
+
 ghost use Rattle.std.specs.Prelude.{◌+◌, ◌≤◌, length};
 
 use compare_lines::{OLD_HALF, OLD_WORD, narrow};
@@ -8,7 +10,7 @@ use search_candidates::CandidatesAnswer;
 const PAIRS_MAX: usize = 200;
 
 // An answer as a line has it: 0 used, 1 not used, 100 + r refused r; then how many candidates are listed.
-#[derive(Drop)]
+#[derive(Clone, Copy)]
 struct Told {
     answer: u64,
     count: u64,

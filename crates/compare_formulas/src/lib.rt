@@ -1,4 +1,6 @@
 // Lines about formulas. crates/compare/data/formulas.txt tells what stands in them.
+#![tactic(auto)]
+
 ghost use Rattle.std.specs.Prelude.{◌≡◌, ◌+◌, ◌*◌, ◌≤◌, ◌<◌, length};
 
 use compare_lines::narrow;
@@ -8,7 +10,7 @@ use expr_eval::Value;
 const PLACES: usize = 80;
 
 // A formula's tokens, and the place of the line after them.
-#[derive(Drop)]
+#[derive(Clone, Copy)]
 struct Text {
     ops: [u8; 80],
     operands: [u64; 80],

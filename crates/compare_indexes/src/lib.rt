@@ -1,4 +1,6 @@
 // Lines about indexes of pairs. crates/compare/data/indexes.txt tells what stands in them.
+#![tactic(auto)]
+
 pub mod inner;
 
 ghost use Rattle.std.specs.Prelude.{◌≤◌, length};

@@ -1,4 +1,6 @@
 // What the kinds of lines have in common: numbers out of a line, digests of arrays, and places that a call must leave alone.
+#![tactic(auto)]
+
 pub mod inner;
 
 ghost use Rattle.std.specs.Prelude.{◌≤◌};

@@ -1,4 +1,6 @@
 // Lines about the test load. crates/compare/data/loads.txt tells what stands in them.
+#![tactic(auto)]
+
 ghost use Rattle.std.specs.Prelude.{◌≤◌, length};
 
 use compare_lines::{OLD_BYTE, OLD_WORD, narrow};

@@ -1,4 +1,6 @@
 // Lines about closing logs. crates/compare/data/logs.txt tells what stands in them.
+#![tactic(auto)]
+
 ghost use Rattle.std.specs.Prelude.{◌≤◌, length};
 
 use compare_lines::{narrow, number_at};

@@ -1,4 +1,6 @@
 // Lines about product searches. crates/compare/data/searches.txt tells what stands in them.
+#![tactic(auto)]
+
 ghost use Rattle.std.specs.Prelude.{◌+◌, ◌≤◌, length};
 
 use compare_lines::{OLD_HALF, OLD_WORD, narrow};

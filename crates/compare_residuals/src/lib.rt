@@ -1,4 +1,6 @@
 // Lines about residual searches. crates/compare/data/residuals.txt tells what stands in them.
+#![tactic(auto)]
+
 ghost use Rattle.std.specs.Prelude.{◌+◌, ◌≤◌, length};
 
 use compare_lines::{OLD_HALF, OLD_WORD, narrow};

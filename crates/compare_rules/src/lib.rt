@@ -1,4 +1,6 @@
 // Lines about rules over records. crates/compare/data/rules.txt tells what stands in them.
+#![tactic(auto)]
+
 ghost use Rattle.std.specs.Prelude.{◌≤◌, length};
 
 use compare_lines::{OLD_BYTE, narrow};

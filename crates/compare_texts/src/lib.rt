@@ -1,5 +1,7 @@
 // The cases of crates/compare/data/listings.txt and of loads.txt: a line `20 A B` or `25 A B`, then A bytes of a text, B bytes that the listing program, or the load
 // program, must print of it, and a line end.
+#![tactic(auto)]
+
 use listing::ListingAnswer;
 use text_parse::Parse;
 
@@ -14,7 +16,7 @@ const TEXT_MAX: u64 = 0x100_0000;
 pub const PRINTED_MAX: usize = 131072;
 
 // Where a case stands.
-#[derive(Drop)]
+#[derive(Clone, Copy)]
 pub struct Case {
     pub open: bool,
     // which program's

@@ -1,4 +1,6 @@
 // Lines about words, points, fingerprints and gates on rows. crates/compare/data/probe.txt tells what stands in them.
+#![tactic(auto)]
+
 ghost use Rattle.std.specs.Prelude.{◌+◌, ◌≤◌, length};
 
 use compare_lines::narrow;

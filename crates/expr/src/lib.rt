@@ -1,4 +1,6 @@
 // Formulas in postfix: their tokens and their test. From expr.rs.
+#![tactic(auto)]
+
 pub mod inner;
 mod reader;
 
@@ -11,7 +13,7 @@ use row_gates::Gate;
 pub const MAX_TOKENS: usize = 64;
 
 // A token of a formula; `Bad` is whatever is none.
-#[derive(Drop)]
+#[derive(Clone, Copy)]
 pub enum Token {
     Constant(u64),
     Variable(u64),

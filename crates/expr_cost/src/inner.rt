@@ -11,7 +11,7 @@ use row_gates::Gate;
 const PRODUCT_SIZE: u32 = 3;
 
 // A cost, with the place where its formula begins.
-#[derive(Drop)]
+#[derive(Clone, Copy)]
 pub struct SpanCost {
     pub info: CostInfo,
     pub from: usize,

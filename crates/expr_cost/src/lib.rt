@@ -1,4 +1,6 @@
 // The cost of a formula, and the order of costs. From expr_cost.rs.
+#![tactic(auto)]
+
 pub mod inner;
 
 ghost use Rattle.std.specs.Prelude.{◌≡◌};
@@ -6,7 +8,7 @@ ghost use Rattle.expr_cost.specs.Cost.{is_better};
 ghost use Rattle.expr_cost.specs.Answers.{refused_cost, costed};
 
 // Weighted size, nonlinear products, depth.
-#[derive(Drop)]
+#[derive(Clone, Copy)]
 pub struct Cost {
     pub size: u32,
     pub products: u32,
@@ -14,14 +16,14 @@ pub struct Cost {
 }
 
 // A cost, with the mark whether a variable stands in the formula.
-#[derive(Drop)]
+#[derive(Clone, Copy)]
 pub struct CostInfo {
     pub cost: Cost,
     pub varies: bool,
 }
 
 // A cost, or zeros beside the refusal.
-#[derive(Drop)]
+#[derive(Clone, Copy)]
 pub struct CostAnswer {
     pub refusal: u32,
     pub cost: Cost,

@@ -1,11 +1,13 @@
 // The value of a formula. From evaluator.rs.
+#![tactic(auto)]
+
 pub mod inner;
 
 ghost use Rattle.std.specs.Prelude.{◌≡◌};
 ghost use Rattle.expr_eval.specs.Answers.{evaluated, value_says};
 
 // A formula's value, or the refusal.
-#[derive(Drop)]
+#[derive(Clone, Copy)]
 pub enum Value {
     Word(u64),
     Refused(u32),

@@ -1,10 +1,12 @@
 // The pair index over a lent bank: `build_inner_compositions` of template_decomposer.rs.
+#![tactic(auto)]
+
 pub mod inner;
 
 ghost use Rattle.index.specs.Build.{IndexBuilt, arrays_of};
 
 // How many pairs are listed, and whether the build was ended by a new row; or the refusal.
-#[derive(Drop)]
+#[derive(Clone, Copy)]
 pub enum IndexAnswer {
     Built { pairs: u32, cut: bool },
     Refused(u32),

@@ -11,7 +11,7 @@ use row_lent::PairSlot;
 use row_map::Lookup;
 
 // What a build is of: the width, how many atoms and at most how many pairs, and the bits of the pairs' map.
-#[derive(Drop)]
+#[derive(Clone, Copy)]
 pub struct Job {
     pub w: u32,
     pub count: usize,

@@ -11,7 +11,7 @@ use row_lent::{AtomSlot, PairSlot};
 use row_map::Lookup;
 
 // How many pairs are listed, and whether a new row ended the build.
-#[derive(Drop)]
+#[derive(Clone, Copy)]
 pub struct Tally {
     pub pairs: usize,
     pub cut: bool,

@@ -1,4 +1,6 @@
 // How much of each thing there may be, and the refusals of 01's table.
+#![tactic(auto)]
+
 pub mod inner;
 
 // The most variables of a formula, and bits of a word.

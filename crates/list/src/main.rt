@@ -1,4 +1,6 @@
 // The listing program: reads a text from standard input to its end, and writes the listing of the bank and the index that it asks for, or its refusal.
+#![tactic(auto)]
+
 use listing::ListingAnswer;
 
 // A read that fails is told on standard error, and nothing is listed. The buffer is as long as refusal 4 asks.

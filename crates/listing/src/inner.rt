@@ -118,7 +118,7 @@ pub fn refusal_of(numbers: [u64; 115]) -> u32
 }
 
 // How many atoms and pairs are built, and the index's mark.
-#[derive(Drop)]
+#[derive(Clone, Copy)]
 pub struct Counts {
     pub atoms: usize,
     pub pairs: usize,

@@ -1,4 +1,6 @@
 // The listing: from a text that is read to the text that is written.
+#![tactic(auto)]
+
 pub mod inner;
 
 ghost use Rattle.listing.specs.Listing.{Listed};
@@ -9,7 +11,7 @@ use text_parse::Parse;
 pub const TEXT_MAX: usize = 131072;
 
 // The length of the text in the buffer, or the refusal of a buffer that is too short.
-#[derive(Drop)]
+#[derive(Clone, Copy)]
 pub enum ListingAnswer {
     Written(usize),
     Refused(u32),

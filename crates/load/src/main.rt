@@ -1,4 +1,6 @@
 // The load program: reads seed, variable count, width, limit and n from standard input, and writes the n formulas of that load, a line each, or its refusal.
+#![tactic(auto)]
+
 use load_text::Load;
 
 // Buffer after buffer, until nothing is left or a write fails.

@@ -1,11 +1,13 @@
 // One formula of a test load, drawn with splitmix64 (document 02, 2.2).
+#![tactic(auto)]
+
 pub mod inner;
 
 ghost use Rattle.std.specs.Prelude.{◌≡◌};
 ghost use Rattle.load_draw.specs.Draw.{called};
 
 // How many tokens were drawn, and the state handed on; no token and the state as it was beside a refusal.
-#[derive(Drop)]
+#[derive(Clone, Copy)]
 pub struct DrawnFormula {
     pub refusal: u32,
     pub count: usize,

@@ -138,7 +138,7 @@ fn lines_part(load: Load, left: u64, state: u64, p: usize) -> LoadPart
 }
 
 // The place after a line, and the state after its formula.
-#[derive(Drop)]
+#[derive(Clone, Copy)]
 struct Line {
     next: usize,
     state: u64,

@@ -1,4 +1,6 @@
 // The load program's answer: from a text that is read to the lines that are written, buffer after buffer (document 02, 2.2).
+#![tactic(auto)]
+
 pub mod inner;
 
 ghost use Rattle.std.specs.Prelude.{◌≡◌, List, ℕ, ◌+◌, ◌<◌, ◌^◌, length};
@@ -12,7 +14,7 @@ use text_parse::Parse;
 pub const LINE_MAX: usize = 1409;
 
 // What is still to be written: the line that tells a refusal's number, or as many lines as are left, drawn from the state on.
-#[derive(Drop)]
+#[derive(Clone, Copy)]
 pub struct Load {
     number: u32,
     state: u64,
@@ -23,7 +25,7 @@ pub struct Load {
 }
 
 // How much stands in the buffer, and what is still to be written.
-#[derive(Drop)]
+#[derive(Clone, Copy)]
 pub struct LoadPart {
     pub refusal: u32,
     pub length: usize,

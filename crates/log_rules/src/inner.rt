@@ -15,7 +15,7 @@ use rule_run::{RuleAnswer, RuleState};
 pub const NO_RANK: u8 = 9;
 
 // The least rank that fires on a record, and the least number by which a rule is refused, 0 for none.
-#[derive(Drop)]
+#[derive(Clone, Copy)]
 pub struct Fired {
     pub refusal: u32,
     pub rank: u8,

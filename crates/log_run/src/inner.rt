@@ -15,7 +15,7 @@ const FEW: usize = 16;
 const MANY: usize = 256;
 
 // What is shown after some records, and the least number that refuses them, 0 for none; beside one what is shown may be anything.
-#[derive(Drop)]
+#[derive(Clone, Copy)]
 pub struct Took {
     pub shown: Shown,
     pub refusal: u32,

@@ -1,4 +1,6 @@
 // The closing log of a station: each sounding is closed once, by the rule that wins (document 02, 2.7).
+#![tactic(auto)]
+
 pub mod inner;
 
 ghost use Rattle.std.specs.Prelude.{◌≡◌};
@@ -7,7 +9,7 @@ ghost use Rattle.log_run.specs.Step.{logged, opened};
 
 // What the log shows of its sounding: the number of the last record, the number of the record that closed it and the rank that won (0 and
 // 0 for none), and how many later records had a firing. Number and count stay at 2^64 - 1.
-#[derive(Drop)]
+#[derive(Clone, Copy)]
 pub struct Shown {
     pub number: u64,
     pub close: u64,
@@ -17,7 +19,7 @@ pub struct Shown {
 
 // Whether a sounding was opened, what is shown of it, and what the window of the rule at each place has seen (`RuleState` of rule_run).
 // Every value is a log; the empty one is false and zeros.
-#[derive(Drop)]
+#[derive(Clone, Copy)]
 pub struct Log {
     pub windows: [u64; 8],
     pub shown: Shown,
@@ -25,7 +27,7 @@ pub struct Log {
 }
 
 // The log after a call's records; as it was beside a refusal.
-#[derive(Drop)]
+#[derive(Clone, Copy)]
 pub struct LogAnswer {
     pub log: Log,
     pub refusal: u32,

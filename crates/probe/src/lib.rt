@@ -1,4 +1,6 @@
 // The row of a formula at sixteen points, from template_decomposer.rs.
+#![tactic(auto)]
+
 ghost use Rattle.std.specs.Prelude.{◌≡◌, true, ◌≤◌};
 ghost use Rattle.expr.specs.Formula.{tokens, is_formula};
 ghost use Rattle.expr_eval.specs.Value.{value_of};

@@ -1,4 +1,6 @@
 // splitmix64 and the sixteen probe points that it gives, from template_decomposer.rs.
+#![tactic(auto)]
+
 ghost use Rattle.std.specs.Prelude.{◌≡◌, ◌≤◌};
 ghost use Rattle.probe_points.specs.Points.{drawn, zero_points, probe_points, made_points, DrawsPoint};
 
@@ -11,27 +13,27 @@ pub const POINT_WORDS: usize = 6;
 const PROBE_SEED: u64 = 0xC0B4A;
 
 // A state of splitmix64, and the word that it gave.
-#[derive(Drop)]
+#[derive(Clone, Copy)]
 pub struct Draw {
     pub state: u64,
     pub word: u64,
 }
 
 // A word for each variable; the places past the variable count are ignored by every call.
-#[derive(Drop)]
+#[derive(Clone, Copy)]
 pub struct Point {
     pub words: [u64; 6],
 }
 
 // Sixteen points, or zeros beside the refusal.
-#[derive(Drop)]
+#[derive(Clone, Copy)]
 pub struct Points {
     pub refusal: u32,
     pub points: [Point; 16],
 }
 
 // A point, and the state after it.
-#[derive(Drop)]
+#[derive(Clone, Copy)]
 struct DrawnPoint {
     state: u64,
     point: Point,

@@ -1,4 +1,6 @@
 // The fingerprint of a row, from template_decomposer.rs.
+#![tactic(auto)]
+
 ghost use Rattle.std.specs.Prelude.{◌≡◌};
 ghost use Rattle.row_fingerprint.specs.Fingerprint.{fingerprint_of, mix_word, finished};
 

@@ -1,4 +1,6 @@
 // Gates on rows of sixteen words, from cobra-simd lib.rs, whose scalar path is the reference on reduced words; a width takes the place of the mask.
+#![tactic(auto)]
+
 pub mod inner;
 
 ghost use Rattle.std.specs.Prelude.{◌≡◌};
@@ -8,7 +10,7 @@ ghost use Rattle.row_gates.specs.Gates.{applied, residual, match_says, matched};
 pub const ROW_WORDS: usize = 16;
 
 // 01's gates, in the order of their numbers.
-#[derive(Drop)]
+#[derive(Clone, Copy)]
 pub enum Gate {
     And,
     Or,
@@ -18,14 +20,14 @@ pub enum Gate {
 }
 
 // A row, or sixteen zeros beside the refusal.
-#[derive(Drop)]
+#[derive(Clone, Copy)]
 pub struct RowAnswer {
     pub refusal: u32,
     pub row: [u64; 16],
 }
 
 // Whether all sixteen places match, or the refusal.
-#[derive(Drop)]
+#[derive(Clone, Copy)]
 pub enum Match {
     Same,
     Different,

@@ -1,9 +1,11 @@
 // Rows in a lent array, by slot: loaded, written, compared; and the test whether a row's word reaches 2^w.
+#![tactic(auto)]
+
 pub mod inner;
 
 // 01's slots: an atom's number in the bank and a pair's number in the index, never taken for one another.
-#[derive(Drop)]
+#[derive(Clone, Copy)]
 pub struct AtomSlot(pub u32);
 
-#[derive(Drop)]
+#[derive(Clone, Copy)]
 pub struct PairSlot(pub u32);

@@ -11,9 +11,7 @@ use Rattle.limits.proofs.Refusals.{or_later, unless_refused_lem, unless_not}
 use Rattle.expr.specs.Formula.{tokens}
 use Rattle.expr_eval.specs.Value.{value_of}
 use Rattle.rule_run.specs.declared.RuleState.{RuleState}
-use Rattle.arith.specs.Word.{bit_of}
-use Rattle.arith.proofs.Bits.{bit_none}
-use Rattle.rule_run.specs.Window.{nonzero, mark_at, sum_below, ago, answer_to, answers_to, state_after, run_refusal}
+use Rattle.rule_run.specs.Window.{nonzero, mark_at, sum_below, bit_of, ago, answer_to, answers_to, state_after, run_refusal}
 use Rattle.rule_run.specs.Facts.{Call, made, taken, state_over, answers_over, records_over, taken_over, fresh_count, uncut, FreshlyCounted, DividedAnywhere, StateFits, Appended}
 use Rattle.rule_run.proofs.Counting.{Bits, sum_same, ago_here, ago-before, ago_cases, state_bit, state_lt, state-none}
 use Rattle.rule_run.proofs.Feeding.{length-answers, answers-more, marks-low, Passes, passes, ready, refusal-none}
@@ -249,6 +247,9 @@ module _ (nv w count : ℕ) (ops operands : List ℕ) (m window : ℕ) where
       ((λ i. record { past = state i }), o.answers ∙ sym (v.answers ∙ ap₂ (λ (l : List ℕ) (k : ℕ). answers_to (mark l) s.past m window k) e.1 e.0))
 
   -- ---- a fresh count
+  zero_bit : (i : ℕ) → bit_of 0 i ≡ 0
+  zero_bit i = ap (λ (x : ℕ). x % 2) (zero-div (2 ^ i))
+
   fresh : (records : List ℕ) (k : ℕ) → sum_below window (ago (mark records) 0 (suc k)) ≡ fresh_count nv w count ops operands m window records k
   unfolding fresh_count
   fresh records k =
@@ -256,7 +257,7 @@ module _ (nv w count : ℕ) (ops operands : List ℕ) (m window : ℕ) where
       (λ i l.
       ago_cases (mark records) 0 (suc k) i (λ (x : ℕ). x ≡ cond (leb i k) (mark records (k - i)) 0)
       (λ b. ap (mark records) (omega arith) ∙ sym (ap (λ (t : Bool). cond t (mark records (k - i)) 0) (le-leb i k (omega arith))))
-      (λ b. bit_none (i - suc k) ∙ sym (ap (λ (t : Bool). cond t (mark records (k - i)) 0) (lt-leb i k (omega arith)))))
+      (λ b. zero_bit (i - suc k) ∙ sym (ap (λ (t : Bool). cond t (mark records (k - i)) 0) (lt-leb i k (omega arith)))))
 
   pub freshly_counted : FreshlyCounted nv w count ops operands m window
   unfolding answers_to answer_to

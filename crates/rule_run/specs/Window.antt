@@ -1,6 +1,5 @@
 -- A rule over a run of records: its answers, its state and its refusals, by counting. Assumes nothing.
 use Rattle.std.specs.Prelude.{ℕ, zero, suc, ◌+◌, ◌-◌, ◌*◌, ◌/◌, ◌%◌, ◌^◌, Bool, cond, ◌||◌, List, map, length, nat_le, nat_lt}
-use Rattle.arith.specs.Word.{bit_of}
 use Rattle.arrays.specs.Lists.{count_up, laid}
 use Rattle.arrays.specs.Parts.{part_at}
 use Rattle.limits.specs.Refusal.{refuse, unless_refused, outside_of, bad_count, bad_width}
@@ -28,8 +27,11 @@ unfoldable pub sum_below : ℕ → (ℕ → ℕ) → ℕ
 sum_below zero f = 0
 sum_below (suc n) f = sum_below n f + f n
 
--- marks, each 0 or 1, of the records of a call by their numbers, and the state s before them. S9: bit i of a state is the mark i records before the last that it
--- has seen; every 64 bits are a state, and the empty one is 0
+-- S9: bit i of a state is the mark i records before the last that it has seen; every 64 bits are a state, and the empty one is 0
+abbrev pub bit_of : ℕ → ℕ → ℕ
+bit_of s i = s / 2 ^ i % 2
+
+-- marks, each 0 or 1, of the records of a call by their numbers, and the state s before them
 module _ (mark : ℕ → ℕ) (s : ℕ) where
   -- the mark i records before the last of n: one of these n, or one from before them, which the state s has
   unfoldable pub ago : ℕ → ℕ → ℕ

@@ -5,8 +5,7 @@ ghost use Rattle.arrays.specs.Parts.{part_at};
 ghost use Rattle.expr.specs.Formula.{tokens};
 ghost use Rattle.expr_eval.specs.Value.{value_of};
 ghost use Rattle.expr_eval.specs.Answers.{value_says};
-ghost use Rattle.arith.specs.Word.{bit_of};
-ghost use Rattle.rule_run.specs.Window.{nonzero, mark_at, sum_below, bad_window, too_few, run_refusal, ran_or};
+ghost use Rattle.rule_run.specs.Window.{nonzero, mark_at, sum_below, bit_of, bad_window, too_few, run_refusal, ran_or};
 ghost use Rattle.rule_run.specs.Steps.{Ready, Fed, record_answer, ran_one};
 
 use crate::{MAX_WINDOW, RuleState};
@@ -14,7 +13,7 @@ use expr_eval::Value;
 use row_gates::ROW_WORDS;
 
 // The answer to one record and the state that continues the run; beside a refusal 0, and the state as it was.
-#[derive(Drop)]
+#[derive(Clone, Copy)]
 pub struct RecordAnswer {
     pub refusal: u32,
     pub answer: u8,

@@ -1,4 +1,6 @@
 // A rule over a run of records: it fires when its formula was nonzero in at least M of the last W (document 02, 2.6).
+#![tactic(auto)]
+
 pub mod inner;
 
 ghost use Rattle.std.specs.Prelude.{◌≡◌};
@@ -9,13 +11,13 @@ pub const MAX_WINDOW: u32 = 64;
 
 // What a run has seen: bit i of `past` is 1 where the formula was nonzero i records before the last. Every value is a state; 0 is the
 // empty one, from which a run starts.
-#[derive(Drop)]
+#[derive(Clone, Copy)]
 pub struct RuleState {
     pub past: u64,
 }
 
 // The state that continues the run; as it was beside a refusal.
-#[derive(Drop)]
+#[derive(Clone, Copy)]
 pub struct RuleAnswer {
     pub refusal: u32,
     pub state: RuleState,

@@ -1,10 +1,12 @@
 // The product filter as a call: `collect_mul_probe0_candidates` of template_decomposer.rs.
+#![tactic(auto)]
+
 pub mod inner;
 
 ghost use Rattle.search_candidates.specs.Candidates.{Collected};
 
 // How many candidates are listed, or "not used"; or the refusal.
-#[derive(Drop)]
+#[derive(Clone, Copy)]
 pub enum CandidatesAnswer {
     Used(u32),
     NotUsed,

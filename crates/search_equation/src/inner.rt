@@ -7,7 +7,7 @@ ghost use Rattle.search_equation.specs.Solved.{Asked, Solved};
 pub const ZEROS_MAX: u32 = 8;
 
 // The solutions: the words with the remainder `first`, the least of them, modulo 2^(w - zeros), or none.
-#[derive(Drop)]
+#[derive(Clone, Copy)]
 pub enum Solution {
     Class { zeros: u32, first: u64 },
     Nothing,

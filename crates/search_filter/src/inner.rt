@@ -5,7 +5,7 @@ ghost use Rattle.search_filter.specs.Sweeps.{in_class, Small, IsKey, Sweeping, S
 ghost use Rattle.search_filter.specs.Steps.{Ascends, AfterSamples, Fresh, Window, KeysPassed, KeySettled};
 
 // The words that leave `first` modulo 2^(w - zeros); those below 2^w are keys, 2^zeros of them.
-#[derive(Drop)]
+#[derive(Clone, Copy)]
 pub struct Residue {
     pub w: u32,
     pub zeros: u32,
@@ -13,7 +13,7 @@ pub struct Residue {
 }
 
 // The place that a sweep has come to, its running value, which is the key that it looks for, and how many keys are left, this one included.
-#[derive(Drop)]
+#[derive(Clone, Copy)]
 pub struct Sweep {
     pub at: usize,
     pub key: u64,

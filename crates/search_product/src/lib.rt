@@ -1,4 +1,6 @@
 // The product search: template_decomposer.rs, `layer2`'s product loop, after a first stage over two atoms; the cheapest of both (02, 2.4).
+#![tactic(auto)]
+
 pub mod inner;
 
 ghost use Rattle.std.specs.Prelude.{◌≡◌};
@@ -9,7 +11,7 @@ use row_lent::{AtomSlot, PairSlot};
 use search_product_trial::inner::Found;
 
 // 01, Product search: two atom slots, an atom slot and a pair slot, or none; or the refusal.
-#[derive(Drop)]
+#[derive(Clone, Copy)]
 pub enum ProductAnswer {
     Atoms(AtomSlot, AtomSlot),
     AtomPair(AtomSlot, PairSlot),

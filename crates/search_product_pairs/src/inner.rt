@@ -16,7 +16,7 @@ use search_filter::inner::Residue;
 use search_product_trial::inner::Best;
 
 // Where a walk over a run stops: at the first place that fits, or after the run.
-#[derive(Drop)]
+#[derive(Clone, Copy)]
 struct RunStop {
     at: usize,
     fits: bool,

@@ -14,7 +14,7 @@ use row_gates::{Gate, ROW_WORDS};
 use row_lent::{AtomSlot, PairSlot};
 
 // A product that fits.
-#[derive(Drop)]
+#[derive(Clone, Copy)]
 pub enum Found {
     Atoms(AtomSlot, AtomSlot),
     AtomPair(AtomSlot, PairSlot),
@@ -22,7 +22,7 @@ pub enum Found {
 }
 
 // The cheapest product so far, with its cost.
-#[derive(Drop)]
+#[derive(Clone, Copy)]
 pub struct Best {
     pub found: Found,
     pub cost: Cost,

@@ -16,14 +16,14 @@ use search_residual_trial::inner::Found;
 const AREA: usize = 5054;
 
 // The atom or the pair that has a row.
-#[derive(Drop)]
+#[derive(Clone, Copy)]
 pub enum Part {
     Atom(AtomSlot),
     Pair(PairSlot),
 }
 
 // Where a row was found.
-#[derive(Drop)]
+#[derive(Clone, Copy)]
 pub enum Lookup {
     At(Part),
     Missing,

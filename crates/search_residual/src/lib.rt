@@ -1,4 +1,6 @@
 // The residual search, 02's sums and xors: what `gate_residual` of row_gates gives, looked up as `ValMap::find` of template_decomposer.rs does; the order is 02's.
+#![tactic(auto)]
+
 pub mod inner;
 
 ghost use Rattle.std.specs.Prelude.{◌≡◌};
@@ -9,7 +11,7 @@ use row_lent::{AtomSlot, PairSlot};
 use search_residual_trial::inner::Found;
 
 // 02, 2.1: the outer gate and both parts named, two atom slots or an atom slot and a pair slot; or none; or the refusal.
-#[derive(Drop)]
+#[derive(Clone, Copy)]
 pub enum ResidualAnswer {
     Atoms(Gate, AtomSlot, AtomSlot),
     AtomPair(Gate, AtomSlot, PairSlot),

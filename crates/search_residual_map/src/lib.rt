@@ -1,8 +1,10 @@
 // The map of the residual rows of a search: rows are looked up in it, so that one pass over a bank or an index serves all atoms under both outer gates.
+#![tactic(auto)]
+
 pub mod inner;
 
 // The entry of a residual row, which is its number plus one, and the least slot that has it; entry 0 where none was found.
-#[derive(Drop)]
+#[derive(Clone, Copy)]
 pub struct First {
     pub at: u32,
     pub slot: u32,

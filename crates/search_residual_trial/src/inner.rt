@@ -8,7 +8,7 @@ use row_gates::{Gate, ROW_WORDS};
 use row_lent::{AtomSlot, PairSlot};
 
 // The first completion that hits.
-#[derive(Drop)]
+#[derive(Clone, Copy)]
 pub enum Found {
     Atoms(Gate, AtomSlot, AtomSlot),
     AtomPair(Gate, AtomSlot, PairSlot),

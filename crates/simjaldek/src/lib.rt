@@ -1,5 +1,7 @@
 // The static library for Rust and C callers: public calls, each under a name of its own, over numbers and slices.
 // A refusal is a number of 01's table, 0 for none; a row is the first sixteen words of its slice, and a shorter slice is refused 4.
+#![tactic(auto)]
+
 ghost use Rattle.std.specs.Prelude.{◌≡◌, ◌+◌, ◌-◌, ◌*◌, ◌%◌, ◌^◌};
 ghost use Rattle.arith.specs.Word.{modulus, not_of, neg_of, sub_of};
 ghost use Rattle.arith.specs.Cong.{Inverse};

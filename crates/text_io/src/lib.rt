@@ -1,4 +1,6 @@
 // Standard input as a text that is read, and standard output: what the programs over text_parse share.
+#![tactic(auto)]
+
 use text_parse::Parse;
 
 const STANDARD_INPUT: i32 = 0;
@@ -6,7 +8,7 @@ const STANDARD_INPUT: i32 = 0;
 const STANDARD_OUTPUT: i32 = 1;
 
 // A reading, and whether to go on: 0 go on, 1 the text is at its end, 2 a read failed.
-#[derive(Drop)]
+#[derive(Clone, Copy)]
 pub struct Turn {
     pub parse: Parse,
     pub state: u8,

@@ -1,4 +1,6 @@
 // The input of the listing and of the test load: unsigned decimals out of a text that comes in parts of any size.
+#![tactic(auto)]
+
 ghost use Rattle.std.specs.Prelude.{◌≡◌, ℕ, ◌+◌, ◌*◌, ◌^◌, ◌<◌, true, false, List, [], ◌++◌, length, ◌==◌};
 ghost use Rattle.text_parse.specs.Text.{is_parting, is_digit, listing_many, load_many};
 ghost use Rattle.text_parse.specs.Reading.{Reads, Ends};
@@ -22,7 +24,7 @@ const VALUE_TENTH: u64 = 1844674407370955161;
 
 // Where a reading stands: the numbers read so far, of which the first are kept; whether it is within a number, and that number's value so far;
 // whether the text is spoilt: refusal 9 lets no text through that begins so. Its fields are private: every state comes from `begin` and `feed`, so it has read some text.
-#[derive(Drop)]
+#[derive(Clone, Copy)]
 pub struct Parse {
     numbers: [u64; 115],
     count: u64,
@@ -32,7 +34,7 @@ pub struct Parse {
 }
 
 // The state but for the numbers that are kept: it goes by value from byte to byte, and the numbers stay in their place.
-#[derive(Drop)]
+#[derive(Clone, Copy)]
 struct Scan {
     count: u64,
     value: u64,
@@ -41,7 +43,7 @@ struct Scan {
 }
 
 // Whether refusal 9 lets the text through, and its numbers.
-#[derive(Drop)]
+#[derive(Clone, Copy)]
 pub struct Input {
     pub fits: bool,
     pub numbers: [u64; 115],

@@ -1,2 +1,4 @@
 // The programs' output, as text in a lent buffer.
+#![tactic(auto)]
+
 pub mod inner;

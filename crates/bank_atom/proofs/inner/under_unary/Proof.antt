@@ -1,5 +1,4 @@
--- `bank_atom::inner::under_unary` meets its contract: text, cost, set and row are each those under the token. Assumes nothing.
-use mathlib.Core.Path.{refl}
+-- `bank_atom::inner::under_unary` meets its contract: text, cost and row are each those under the token. Assumes nothing.
 use Rattle.bank_atom.proofs.Making.{under_unary_is}
 use borrow.Author.Rules.{rules}
 use Rattle.bank_atom.proofs.inner.under_unary.Statement.{statement}
@@ -20,7 +19,7 @@ unary-row-requires c κs = search rules
 returns : tie.Need-returns
 returns c =
     let s = c.before.before.before.before.before.before.before.args in
-    under_unary_is s.w _ s.u s.e _ c.before.before.before.unary-opcode.ensures c.before.before.with-token.ensures c.before.under-unary.ensures refl c.unary-row.ensures
+    under_unary_is s.w _ s.u s.e _ c.before.before.before.unary-opcode.ensures c.before.before.with-token.ensures c.before.under-unary.ensures c.unary-row.ensures
 
 pub under-unary-spec : {M : Type 1} → statement M
 under-unary-spec =

@@ -1,0 +1,10 @@
+-- `arith::mod_mul` meets its contract: what wraps at 64 bits and is then reduced is reduced. Assumes nothing.
+use Rattle.std.proofs.Common.{ℕ, ◌*◌, ◌%◌, ap, ◌∙◌, rules}
+use Rattle.arith.specs.Word.{modulus}
+use Rattle.arith.proofs.Remainders.{wrap_reduce}
+use Rattle.arith.proofs.mod_mul.Goals as goal
+
+pub returns : goal.returns
+returns c =
+    let s = c.args in
+    c.reduce.ensures ∙ ap (λ (x : ℕ). x % modulus s.w) c.wrapping_mul.ensures ∙ wrap_reduce (s.a * s.b) s.w

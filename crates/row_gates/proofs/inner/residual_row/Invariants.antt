@@ -1,0 +1,16 @@
+-- `row_gates::inner::residual_row` meets its contract: the places passed hold what `residual_of` gives there. Assumes nothing.
+use mathlib.Core.Path.{◌≡◌, refl}
+use Prim.Native.Nat.{ℕ, ◌-◌, ◌≤◌}
+use native.Mathlib.Omega.{arith}
+use borrow.Author.Rules.{rules}
+use lib.ListN.{length, get_or, length-set}
+use Rattle.arrays.proofs.Fill.{Filled, filled_more, zipped}
+use Rattle.row_gates.specs.Gates.{residual_of, residual_row}
+use Rattle.row_gates.proofs.inner.residual_row.Given as goal
+
+abbrev pub invariant-loop-i : goal.invariant-loop-i
+invariant-loop-i l =
+    (l.i ≤ 16) × ((length l.row ≡ 16) × Filled (λ (k : ℕ). residual_of l.g l.w (get_or l.target k 0) (get_or l.a k 0)) l.row l.i)
+
+abbrev pub decreases-loop-i : goal.decreases-loop-i
+decreases-loop-i l = 16 - l.i
