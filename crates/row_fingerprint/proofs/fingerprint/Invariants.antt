@@ -1,0 +1,15 @@
+-- `row_fingerprint::fingerprint` meets its contract: what is folded so far and the words to come give the whole. Assumes nothing.
+use mathlib.Core.Path.{◌≡◌, refl, sym, ap, ◌∙◌}
+use Prim.Native.Nat.{ℕ, ◌+◌, ◌-◌, ◌≤◌}
+use native.Mathlib.Omega.{arith}
+use borrow.Author.Rules.{rules}
+use lib.ListN.{drop}
+use Rattle.row_fingerprint.specs.Fingerprint.{mixed, finished, fingerprint_of}
+use Rattle.row_fingerprint.proofs.Folding.{mixed-step, mixed_end}
+use Rattle.row_fingerprint.proofs.fingerprint.Given as goal
+
+abbrev pub invariant-loop-i : goal.invariant-loop-i
+invariant-loop-i l = (l.i ≤ 16) × (finished (mixed l.h (drop l.i l.row)) ≡ fingerprint_of l.row)
+
+abbrev pub decreases-loop-i : goal.decreases-loop-i
+decreases-loop-i l = 16 - l.i

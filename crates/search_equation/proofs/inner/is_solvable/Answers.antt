@@ -1,0 +1,10 @@
+-- `search_equation::inner::is_solvable` meets its contract: both counts are the definition's. Assumes nothing.
+use mathlib.Core.Path.{ap₂}
+use borrow.Author.Rules.{rules}
+use lib.Dec.{leb}
+use Rattle.search_equation.specs.Equation.{solvable}
+use Rattle.search_equation.proofs.inner.is_solvable.Goals as goal
+
+pub returns : goal.returns
+unfolding solvable
+returns c = ap₂ leb c.trailing_zeros.ensures c.trailing_zeros-2.ensures
