@@ -1,0 +1,15 @@
+-- `bank_lookup::least_slot` meets its contract: the slots passed have other rows. Assumes nothing.
+use mathlib.Core.Path.{◌≡◌, sym, ap, ◌∙◌}
+use Prim.Native.Nat.{ℕ, ◌-◌, ◌≤◌}
+use native.Mathlib.Omega.{arith}
+use borrow.Author.Rules.{rules}
+use Rattle.limits.specs.Refusal.{answer}
+use Rattle.bank_lookup.specs.Lookup.{least_from}
+use Rattle.bank_lookup.proofs.Least.{least_here, least-later, least-none}
+use Rattle.bank_lookup.proofs.least_slot.Given as goal
+
+abbrev pub invariant-loop-s : goal.invariant-loop-s
+invariant-loop-s l = (l.s ≤ l.count) × (least_from l.rows l.row l.s (l.count - l.s) ≡ least_from l.rows l.row 0 l.count)
+
+abbrev pub decreases-loop-s : goal.decreases-loop-s
+decreases-loop-s l = l.count - l.s

@@ -1,0 +1,77 @@
+-- `index_order::inner::is_order` meets its contract: the entries passed are below n and ascend, and `word` and `last` are the last one's. Assumes nothing.
+use Rattle.std.proofs.Common.{◌≡◌, ℕ, ◌+◌, ◌-◌, ◌*◌, ◌<◌, ◌≤◌, List, length, get_or, take, sym, inl, inr, arith, rules}
+use native.Mathlib.Decide.{dec_lt}
+use Rattle.index_order.specs.Order.{first_word, is_order}
+use Rattle.index_order.proofs.Tested.{Passed, passed_none, passed_more, passed_all, fails_low, fails_word, fails_after, is_false}
+use Rattle.index_order.proofs.inner.is_order.Goals as goal
+
+pub returns-then-n-eq0 : goal.returns-then-n-eq0
+returns-then-n-eq0 c =
+    let a = c.args in
+    sym (passed_all a.rows.now a.order.now a.n 0 0 0 (omega arith) (omega (arith, c.if-n-eq0.true)) (passed_none a.rows.now a.order.now a.n))
+
+pub overflow_cast-last : goal.overflow_cast-last
+overflow_cast-last c = omega (arith, c.type_inv.order 0)
+
+pub returns-then-last-n : goal.returns-then-last-n
+returns-then-last-n c =
+    let a = c.args in
+    is_false (is_order a.n a.rows.now (take a.n a.order.now))
+    (fails_low a.rows.now a.order.now a.n 0 0 0 (passed_none a.rows.now a.order.now a.n) (omega arith) (omega arith) c.if-last-n.true)
+
+pub loop-i-init : goal.loop-i-init
+loop-i-init c =
+    let a = c.args in
+    (omega arith, passed_more a.rows.now a.order.now a.n 0 0 0 (passed_none a.rows.now a.order.now a.n) c.if-last-n.false (omega arith) (λ _. omega arith))
+
+pub overflow_cast-s : goal.overflow_cast-s
+overflow_cast-s c = omega (arith, c.type_inv.order c.loop-i.i)
+
+pub returns-then-s-n : goal.returns-then-s-n
+returns-then-s-n c =
+    let l = c.loop-i in
+    let a = c.args in
+    is_false (is_order a.n a.rows.now (take a.n a.order.now))
+    (fails_low a.rows.now a.order.now a.n l.word (l.last + 1) l.i l.invariant.1 (omega arith) (omega arith) c.if-s-n.true)
+
+pub returns-then-least-word : goal.returns-then-least-word
+returns-then-least-word c =
+    let l = c.loop-i in
+    let a = c.args in
+    let s = get_or a.order.now l.i 0 in
+    let row = c.type_inv.rows (16 * s) in
+    let both : (first_word a.rows.now s ≤ l.word) × (s < l.last + 1) = elim c.if-s-last.branch [
+      | inl t ↦ (omega (arith, row, c.if-least-word.true, t.1, c.wrapping_add_u64-more.ensures.value), omega (arith, t.0.taken))
+      | inr f ↦ absurd (omega (arith, c.if-least-word.true, f.1))
+    ] in
+    is_false (is_order a.n a.rows.now (take a.n a.order.now))
+    (fails_after a.rows.now a.order.now a.n l.word (l.last + 1) l.i l.invariant.1 (omega arith) (omega arith) both.0 both.1)
+
+pub returns-then-w-least : goal.returns-then-w-least
+returns-then-w-least c =
+    let l = c.loop-i in
+    let a = c.args in
+    let fails = is_false (is_order a.n a.rows.now (take a.n a.order.now)) in
+    let more = c.wrapping_add_u64-more.ensures.value in
+    elim c.if-s-last.branch [
+      | inl t ↦ fails (fails_after a.rows.now a.order.now a.n l.word (l.last + 1) l.i l.invariant.1 (omega arith) (omega arith) (omega (arith, c.if-w-least.true, t.1, more)) (omega (arith, t.0.taken)))
+      | inr f ↦ fails (fails_word a.rows.now a.order.now a.n l.word (l.last + 1) l.i l.invariant.1 (omega arith) (omega arith) (omega (arith, c.if-w-least.true, f.1)))
+    ]
+
+pub loop-i-preserved : goal.loop-i-preserved
+loop-i-preserved c =
+    let l = c.loop-i in
+    let a = c.args in
+    let s = get_or a.order.now l.i 0 in
+    let more = c.wrapping_add_u64-more.ensures.value in
+    let slot : first_word a.rows.now s ≡ l.word → l.last + 1 ≤ s = λ e. elim c.if-s-last.branch [
+      | inl t ↦ absurd (omega (arith, c.if-w-least.false, c.if-least-word.false, t.1, more, e))
+      | inr f ↦ omega (arith, f.0.left)
+    ] in
+    (omega arith, passed_more a.rows.now a.order.now a.n l.word (l.last + 1) l.i l.invariant.1 (omega arith) (omega (arith, c.if-w-least.false, c.if-least-word.false)) slot)
+
+pub returns : goal.returns
+returns c =
+    let l = c.loop-i in
+    let a = c.args in
+    sym (passed_all a.rows.now a.order.now a.n l.word (l.last + 1) l.i (omega arith) (omega arith) l.invariant.1)

@@ -1,0 +1,15 @@
+-- `search_residual_trial::inner::completes` meets its contract: the words passed are those of the row that completes the atom. Assumes nothing.
+use mathlib.Core.Path.{◌≡◌, sym, ◌∙◌}
+use Prim.Native.Nat.{ℕ, ◌+◌, ◌-◌, ◌*◌, ◌≤◌, ◌<◌}
+use borrow.Author.Count.{below_more}
+use lib.ListN.{get_or}
+use Rattle.search_residual_trial.proofs.Trials.{lane, completes_not, completes_all}
+use native.Mathlib.Omega.{arith}
+use borrow.Author.Rules.{rules}
+use Rattle.search_residual_trial.proofs.inner.completes.Given as goal
+
+abbrev pub invariant-loop-j : goal.invariant-loop-j
+invariant-loop-j l = (l.j ≤ 16) × ((k : ℕ) → k < l.j → get_or l.rows (16 * l.slot + k) 0 ≡ lane l.g l.w l.target l.atoms l.a k)
+
+abbrev pub decreases-loop-j : goal.decreases-loop-j
+decreases-loop-j l = 16 - l.j
