@@ -41,8 +41,8 @@ returns-then-least-word c =
     let s = get_or a.order.now l.i 0 in
     let row = c.type_inv.rows (16 * s) in
     let both : (first_word a.rows.now s ≤ l.word) × (s < l.last + 1) = elim c.if-s-last.branch [
-      | inl t ↦ (omega (arith, row, c.if-least-word.true, t.1, c.wrapping_add_u64-more.ensures.value), omega (arith, t.0.taken))
-      | inr f ↦ absurd (omega (arith, c.if-least-word.true, f.1))
+      | goal.then-s-last w ↦ (omega (arith, row, c.if-least-word.true, w.least-is, c.wrapping_add_u64-more.ensures.value), omega (arith, w.if-s-last.true))
+      | goal.else-s-last w ↦ absurd (omega (arith, c.if-least-word.true, w.least-is))
     ] in
     is_false (is_order a.n a.rows.now (take a.n a.order.now))
     (fails_after a.rows.now a.order.now a.n l.word (l.last + 1) l.i l.invariant.1 (omega arith) (omega arith) both.0 both.1)
@@ -54,8 +54,8 @@ returns-then-w-least c =
     let fails = is_false (is_order a.n a.rows.now (take a.n a.order.now)) in
     let more = c.wrapping_add_u64-more.ensures.value in
     elim c.if-s-last.branch [
-      | inl t ↦ fails (fails_after a.rows.now a.order.now a.n l.word (l.last + 1) l.i l.invariant.1 (omega arith) (omega arith) (omega (arith, c.if-w-least.true, t.1, more)) (omega (arith, t.0.taken)))
-      | inr f ↦ fails (fails_word a.rows.now a.order.now a.n l.word (l.last + 1) l.i l.invariant.1 (omega arith) (omega arith) (omega (arith, c.if-w-least.true, f.1)))
+      | goal.then-s-last w ↦ fails (fails_after a.rows.now a.order.now a.n l.word (l.last + 1) l.i l.invariant.1 (omega arith) (omega arith) (omega (arith, c.if-w-least.true, w.least-is, more)) (omega (arith, w.if-s-last.true)))
+      | goal.else-s-last w ↦ fails (fails_word a.rows.now a.order.now a.n l.word (l.last + 1) l.i l.invariant.1 (omega arith) (omega arith) (omega (arith, c.if-w-least.true, w.least-is)))
     ]
 
 pub loop-i-preserved : goal.loop-i-preserved
@@ -65,8 +65,8 @@ loop-i-preserved c =
     let s = get_or a.order.now l.i 0 in
     let more = c.wrapping_add_u64-more.ensures.value in
     let slot : first_word a.rows.now s ≡ l.word → l.last + 1 ≤ s = λ e. elim c.if-s-last.branch [
-      | inl t ↦ absurd (omega (arith, c.if-w-least.false, c.if-least-word.false, t.1, more, e))
-      | inr f ↦ omega (arith, f.0.left)
+      | goal.then-s-last w ↦ absurd (omega (arith, c.if-w-least.false, c.if-least-word.false, w.least-is, more, e))
+      | goal.else-s-last w ↦ omega (arith, w.if-s-last.false)
     ] in
     (omega arith, passed_more a.rows.now a.order.now a.n l.word (l.last + 1) l.i l.invariant.1 (omega arith) (omega (arith, c.if-w-least.false, c.if-least-word.false)) slot)
 

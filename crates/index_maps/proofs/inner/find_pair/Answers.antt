@@ -1,0 +1,17 @@
+-- `index_maps::inner::find_pair` meets its contract: the pairs' map is all that lies after the bank's. Assumes nothing.
+use mathlib.Core.Path.{refl, sym, subst}
+use mathlib.Core.List.{List}
+use Prim.Native.Nat.{ℕ}
+use lib.ListN.{length}
+use borrow.Author.Rules.{rules}
+use Rattle.row_map.specs.Map.{Searchable}
+use Rattle.index_maps.specs.Area.{bank_area}
+use Rattle.index_maps.proofs.AreaLaws.{back_whole}
+use Rattle.index_maps.proofs.inner.find_pair.Goals as goal
+
+pub find_by-requires : goal.find_by-requires
+find_by-requires c =
+    let a = c.args in record {
+      searchable = subst (λ (z : List ℕ). Searchable z a.bits a.listed.now a.n) (sym (back_whole bank_area (length a.work.now) a.work.now refl)) c.requires.bank_area_in_bounds.1;
+      print_value = c.requires.print_value;
+    }

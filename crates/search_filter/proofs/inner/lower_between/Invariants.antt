@@ -1,0 +1,15 @@
+-- `search_filter::inner::lower_between` meets its contract: what is looked for lies between `a` and `b`. Assumes nothing.
+use mathlib.Core.Path.{subst}
+use Prim.Native.Nat.{ℕ, ◌+◌, ◌-◌, ◌/◌, ◌<◌, ◌≤◌}
+use borrow.Author.Rules.{rules}
+use native.Mathlib.Omega.{arith}
+use Rattle.search_filter.specs.Places.{word_at}
+use Rattle.search_filter.proofs.Halving.{Seek, seek_start, seek_right, seek_left, reached_earlier}
+use Rattle.search_filter.proofs.Words.{words-ascend}
+use Rattle.search_filter.proofs.inner.lower_between.Given as goal
+
+abbrev pub invariant-loop-b : goal.invariant-loop-b
+invariant-loop-b l = Seek (word_at l.rows l.order) l.n l.from l.key l.a l.b
+
+abbrev pub decreases-loop-b : goal.decreases-loop-b
+decreases-loop-b l = l.b - l.a

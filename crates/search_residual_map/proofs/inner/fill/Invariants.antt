@@ -1,0 +1,11 @@
+-- `search_residual_map::inner::fill` meets its contract: the map holds the residual rows passed. Assumes nothing.
+use Rattle.std.proofs.Common.{◌≡◌, ℕ, ◌-◌, ◌*◌, ◌≤◌, subst, arith, rules}
+use Rattle.search_residual_trial.specs.Steps.{wanted}
+use Rattle.search_residual_map.specs.Map.{home_of, Wanted}
+use Rattle.search_residual_map.proofs.inner.fill.Given as goal
+
+abbrev pub invariant-loop-t : goal.invariant-loop-t
+invariant-loop-t l = (l.t ≤ l.end) × Wanted l.w l.count l.atoms l.target l.work l.t
+
+abbrev pub decreases-loop-t : goal.decreases-loop-t
+decreases-loop-t l = l.end - l.t

@@ -1,0 +1,14 @@
+-- `search_residual_map::inner::mix_row` meets its contract: the sum so far and the words to come give the whole. Assumes nothing.
+use Rattle.std.proofs.Common.{◌≡◌, ℕ, ◌+◌, ◌-◌, ◌*◌, ◌%◌, ◌^◌, ◌≤◌, get_or, drop, sym, refl, ap, ◌∙◌, ap₂, arith, rules}
+use lib.Bits.{bit_xor}
+use Rattle.arrays.specs.Parts.{part_at}
+use Rattle.arrays.proofs.Parts.{length-part, get_d_part}
+use Rattle.search_residual_map.specs.Map.{swapped_of, mixed_from, mixed}
+use Rattle.search_residual_map.proofs.Mixing.{mixed-step, mixed_end}
+use Rattle.search_residual_map.proofs.inner.mix_row.Given as goal
+
+abbrev pub invariant-loop-i : goal.invariant-loop-i
+invariant-loop-i l = (l.i ≤ 8) × (mixed_from l.sum l.power (drop (2 * l.i) (part_at 16 l.rows l.slot)) ≡ mixed (part_at 16 l.rows l.slot))
+
+abbrev pub decreases-loop-i : goal.decreases-loop-i
+decreases-loop-i l = 8 - l.i

@@ -1,0 +1,10 @@
+-- `search_residual_map::inner::walk` meets its contract: the row is none of the residual rows passed, and links fall, so that the walk ends. Assumes nothing.
+use Rattle.std.proofs.Common.{◌-◌, sym, ◌∙◌, arith, rules}
+use Rattle.search_residual_map.proofs.Walking.{Along, along_start, along_on, link-low, read_hit, read_none}
+use Rattle.search_residual_map.proofs.inner.walk.Given as goal
+
+abbrev pub invariant-loop-entry : goal.invariant-loop-entry
+invariant-loop-entry l = Along l.w l.count l.atoms l.target l.rows l.slot l.entry
+
+abbrev pub decreases-loop-entry : goal.decreases-loop-entry
+decreases-loop-entry l = l.entry
