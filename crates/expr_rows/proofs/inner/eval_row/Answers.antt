@@ -14,21 +14,27 @@ loop-i-init c =
     let a = c.args in
     (omega arith, rows_start a.w a.nv a.count a.ops.now a.operands.now a.records.now a.stack.now c.requires)
 
--- FAIL no step loop at After-shared_slice_known3
--- pub token_row-row-requires : goal.token_row-row-requires
--- token-row-requires c κs =
---     let s = c.before.before.before.before.before.before.before.before in
---     let a = s.args in
---     let l = c.before.before.before.loop in
---     let n = low c.before.before in
---     record {
---       narrow = s.requires.narrow;
---       few = s.requires.few;
---       may = rows-may a.w a.nv a.count a.ops.now a.operands.now a.records.now l.stack l.sp l.i l.invariant.1 s.requires.long (search rules) c.before.token-at.result (sym c.before.token-at.ensures);
---       there = there c.before;
---       high = omega (arith, n.0, n.1, l.invariant.1.room);
---       long = s.requires.long;
---     }
+pub token_row-row-requires : goal.token_row-row-requires
+token_row-row-requires c =
+    let there : arity c.token_at-t.result ≤ c.loop-i.sp
+    = let a = c.args in
+    let l = c.loop-i in
+    rows-there a.w a.nv a.count a.ops.now a.operands.now a.records.now l.stack l.sp l.i l.invariant.1 (search rules) c.token_at-t.result (sym c.token_at-t.ensures) in
+    let low : (c.loop-i.sp ≤ c.loop-i.i) × (c.args.count ≤ 64)
+    = let a = c.args in
+    let l = c.loop-i in
+    rows-low a.w a.nv a.count a.ops.now a.operands.now a.records.now l.stack l.sp l.i l.invariant.1 in
+    let a = c.args in
+    let l = c.loop-i in
+    let n = low in
+    record {
+      narrow = c.requires.narrow;
+      few = c.requires.few;
+      may = rows-may a.w a.nv a.count a.ops.now a.operands.now a.records.now l.stack l.sp l.i l.invariant.1 c.requires.long (search rules) c.token_at-t.result (sym c.token_at-t.ensures);
+      there = there;
+      high = omega (arith, n.0, n.1, l.invariant.1.room);
+      long = c.requires.long;
+    }
 
 pub overflow_sub-base : goal.overflow_sub-base
 overflow_sub-base c =
@@ -38,9 +44,13 @@ overflow_sub-base c =
     rows-there a.w a.nv a.count a.ops.now a.operands.now a.records.now l.stack l.sp l.i l.invariant.1 (search rules) c.token_at-t.result (sym c.token_at-t.ensures) in
     omega (arith, there, c.takes.ensures)
 
--- FAIL no step loop at After-shared_slice_known3
--- pub put_row-requires : goal.put_row-requires
--- put-row-requires c κs = let n = low c.before.before.before.before.before in omega (arith, n.0, n.1, c.before.before.before.before.before.before.loop.invariant.1.room)
+pub put_row-requires : goal.put_row-requires
+put_row-requires c =
+    let low : (c.loop-i.sp ≤ c.loop-i.i) × (c.args.count ≤ 64)
+    = let a = c.args in
+    let l = c.loop-i in
+    rows-low a.w a.nv a.count a.ops.now a.operands.now a.records.now l.stack l.sp l.i l.invariant.1 in
+    let n = low in omega (arith, n.0, n.1, c.loop-i.invariant.1.room)
 
 pub overflow_add-sp : goal.overflow_add-sp
 overflow_add-sp c =
@@ -50,27 +60,27 @@ overflow_add-sp c =
     rows-low a.w a.nv a.count a.ops.now a.operands.now a.records.now l.stack l.sp l.i l.invariant.1 in
     let n = low in omega (arith, n.0, n.1)
 
--- FAIL no step loop at After-shared_slice_known3
--- pub loop-i-preserved : goal.loop-i-preserved
--- loop-again c =
---     let a = c.before.before.before.before.before.before.before.before.before.before.before.before.before.before.args in
---     let l = c.before.before.before.before.before.before.before.before.before.loop in
---     let t = c.before.before.before.before.before.before.before in
---     let r = c.before.before.before.before.before.token-row in
---     let u = c.before.before.before.before.takes in (
---       omega arith,
---       subst (λ (k : List ℕ). RowStage a.w a.nv a.count a.ops.now a.operands.now a.records.now k (l.sp - u.result + 1) (l.i + 1)) (sym c.before.before.put-row.ensures)
---           (rows_on a.w a.nv a.count a.ops.now a.operands.now a.records.now l.stack l.sp l.i l.invariant.1 (search rules) t.token-at.result (sym t.token-at.ensures) (l.sp - u.result) r.result (omega (arith, there t, u.ensures)) (search rules) r.ensures),
---     )
+pub loop-i-preserved : goal.loop-i-preserved
+loop-i-preserved c =
+    let there : arity c.token_at-t.result ≤ c.loop-i.sp
+    = let a = c.args in
+    let l = c.loop-i in
+    rows-there a.w a.nv a.count a.ops.now a.operands.now a.records.now l.stack l.sp l.i l.invariant.1 (search rules) c.token_at-t.result (sym c.token_at-t.ensures) in
+    let a = c.args in
+    let l = c.loop-i in
+    let r = c.token_row-row in
+    let u = c.takes in (
+      omega arith,
+      subst (λ (k : List ℕ). RowStage a.w a.nv a.count a.ops.now a.operands.now a.records.now k (l.sp - u.result + 1) (l.i + 1)) (sym c.put_row.ensures)
+          (rows_on a.w a.nv a.count a.ops.now a.operands.now a.records.now l.stack l.sp l.i l.invariant.1 (search rules) c.token_at-t.result (sym c.token_at-t.ensures) (l.sp - u.result) r.result (omega (arith, there, u.ensures)) (search rules) r.ensures),
+    )
 
--- FAIL no step loop at After-shared_slice_known3
--- pub load_row-requires : goal.load_row-requires
--- load-row-requires c κs = omega (arith, c.before.before.loop.invariant.1.room)
+pub load_row-requires : goal.load_row-requires
+load_row-requires c = omega (arith, c.loop-i.invariant.1.room)
 
--- FAIL no step loop at After-shared_slice_known3
--- pub returns : goal.returns
--- returns c =
---     let a = c.before.before.before.before.before.before.before.before.args in
---     let l = c.before.before.before.loop in
---     λ j h. ap (λ (row : List ℕ). get_or row j 0) c.Load-row.ensures
---     ∙ rows_end a.w a.nv a.count a.ops.now a.operands.now a.records.now l.stack l.sp l.i l.invariant.1 (search rules) j h
+pub returns : goal.returns
+returns c =
+    let a = c.args in
+    let l = c.loop-i in
+    λ j h. ap (λ (row : List ℕ). get_or row j 0) c.load_row.ensures
+    ∙ rows_end a.w a.nv a.count a.ops.now a.operands.now a.records.now l.stack l.sp l.i l.invariant.1 (search rules) j h

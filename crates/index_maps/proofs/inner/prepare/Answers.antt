@@ -15,9 +15,9 @@ pub returns : goal.returns
 returns c =
     let rows = c.args.atoms.now in
     let work = c.args.work.now in
-    let new = c.fill_bank_map.new.0 in
+    let new = c.fill_bank_map.new.map in
     let one = put_mid 0 (bank_area - 0) work new in
-    let back = c.clear.new.0 in
+    let back = c.clear.new.work in
     let long : length new ≡ bank_area = search rules in
     let size : bank_area ≤ length one = search rules in
     record {

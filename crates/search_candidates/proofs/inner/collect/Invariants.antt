@@ -1,0 +1,11 @@
+-- `search_candidates::inner::collect` meets its contract: at each turn the list holds what is kept of the places before the sweep's. Assumes nothing.
+use Prim.Native.Nat.{◌-◌}
+use native.Mathlib.Omega.{arith}
+use Rattle.search_candidates.proofs.Filling.{Filling, no_samples, filling_start, filling_more, filling_end}
+use Rattle.search_candidates.proofs.inner.collect.Given as goal
+
+abbrev pub invariant-loop-s : goal.invariant-loop-s
+invariant-loop-s l = Filling l.class l.n l.listed l.order l.initial.list l.list l.s l.k
+
+abbrev pub decreases-loop-s : goal.decreases-loop-s
+decreases-loop-s l = l.n - l.s.at
