@@ -52,7 +52,7 @@ pub overflow_cast-ranks : goal.overflow_cast-ranks
 overflow_cast-ranks c = omega (arith, c.requires.lends.1.0.most c.loop-i.i c.loop-i-test.true, c.type_inv.ranks c.loop-i.i)
 
 pub offer-requires : goal.offer-requires
-offer-requires c = let l = c.loop-i in (omega (arith, c.requires.n_in_bounds.1.0, l.invariant.1.1.0), omega (arith, c.requires.n_in_bounds.0, l.invariant.1.0, c.ask_at-x.auto.0))
+offer-requires c = let l = c.loop-i in (omega (arith, c.requires.n_in_bounds.1.0, l.invariant.1.1.0), omega (arith, c.requires.n_in_bounds.0, l.invariant.1.0, c.ask_at-x.auto.answers))
 
 pub overflow_add-i : goal.overflow_add-i
 overflow_add-i c = omega (arith, c.requires.lends.1.0.few, c.loop-i-test.true)
@@ -61,16 +61,15 @@ pub loop-i-preserved : goal.loop-i-preserved
 loop-i-preserved c = let a = c.args in
     let l = c.loop-i in
     let h = c.loop-i-test.true in
-    let x = c.ask_at-x in
     (
       omega (arith, h),
       (
-        omega (arith, x.auto.0, l.invariant.1.0),
+        omega (arith, c.ask_at-x.auto.answers, l.invariant.1.0),
         (
-          omega (arith, c.offer.auto.0, l.invariant.1.1.0),
+          omega (arith, c.offer.auto.fired, l.invariant.1.1.0),
           (
-            length-set l.seen l.i x.result.state.past ∙ l.invariant.1.1.1.0,
-            went-more a.nv a.w (rules_in a.count a.ranks.now a.ms.now a.windows.now a.token_counts.now a.ops.now a.operands.now) a.records.now a.seen.now a.n l.i l.refusal l.seen l.fired x.result.refusal x.result.state.past c.least_number-refusal.result _ x.new.0 c.offer.new.fired (omega (arith, c.requires.lends.1.0.few, c.requires.lends.1.1, l.invariant.1.1.1.0, h)) refl x.ensures.0 x.ensures.1.0 x.ensures.1.1 c.offer.ensures c.least_number-refusal.ensures l.invariant.1.1.1.1,
+            length-set l.seen l.i c.ask_at-x.result.state.past ∙ l.invariant.1.1.1.0,
+            went-more a.nv a.w (rules_in a.count a.ranks.now a.ms.now a.windows.now a.token_counts.now a.ops.now a.operands.now) a.records.now a.seen.now a.n l.i l.refusal l.seen l.fired c.ask_at-x.result.refusal c.ask_at-x.result.state.past c.least_number-refusal.result _ c.ask_at-x.new.answers c.offer.new.fired (omega (arith, c.requires.lends.1.0.few, c.requires.lends.1.1, l.invariant.1.1.1.0, h)) refl c.ask_at-x.ensures.refusal_value c.ask_at-x.ensures.past_value c.ask_at-x.ensures.k_after c.offer.ensures c.least_number-refusal.ensures l.invariant.1.1.1.1,
           ),
         ),
       ),

@@ -35,7 +35,7 @@ ask_at-x-requires c = let a = c.args in
 pub loop-i-preserved : goal.loop-i-preserved
 loop-i-preserved c = let a = c.args in
     let l = c.loop-i in
-    (search rules, (omega (arith, c.ask_at-x.auto.0, l.invariant.1.0), numbers_more a.nv (rules_in a.count a.ranks.now a.ms.now a.windows.now a.token_counts.now a.ops.now a.operands.now) l.i c.least_number-refusal.result l.refusal _ l.invariant.1.1 c.ask_at-x.ensures.refusal_value c.least_number-refusal.ensures))
+    (search rules, (omega (arith, c.ask_at-x.auto.answers, l.invariant.1.0), numbers_more a.nv (rules_in a.count a.ranks.now a.ms.now a.windows.now a.token_counts.now a.ops.now a.operands.now) l.i c.least_number-refusal.result l.refusal _ l.invariant.1.1 c.ask_at-x.ensures.refusal_value c.least_number-refusal.ensures))
 
 pub returns : goal.returns
 returns c = let a = c.args in
