@@ -27,6 +27,7 @@ outer_in g (inr e) = inr (inl e)
 in_outer : (g : Gate) → In g outer_gates → Outer g
 in_outer g (inl e) = inl e
 in_outer g (inr (inl e)) = inr e
+in_outer g (inr (inr x)) = elim x [ ]
 
 -- both invert
 outer_inverts : (g : Gate) → Outer g → invertible g ≡ true

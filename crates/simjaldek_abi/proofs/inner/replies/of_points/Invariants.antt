@@ -1,0 +1,18 @@
+-- `simjaldek_abi::inner::replies::of_points` meets its contract: the points copied and those still to come are the sixteen. Assumes nothing.
+use mathlib.Core.Path.{◌≡◌, refl, sym, ap, ◌∙◌}
+use mathlib.Core.List.{List, ◌++◌, map, append-nil}
+use Prim.Native.Nat.{ℕ, ◌-◌, ◌≤◌}
+use lib.ListN.{length, take, drop, length-set, drop_of_length-le}
+use lib.Seq.{take_all}
+use Rattle.probe_points.specs.declared.Point.{Point}
+use Rattle.simjaldek_abi.specs.Reply.{point_words}
+use Rattle.simjaldek_abi.proofs.Loading.{words_more}
+use borrow.Author.Rules.{rules}
+use native.Mathlib.Omega.{arith}
+use Rattle.simjaldek_abi.proofs.inner.replies.of_points.Given as goal
+
+abbrev pub invariant-loop-k : goal.invariant-loop-k
+invariant-loop-k l = (l.k ≤ 16) × ((length l.points ≡ 16) × (take l.k l.points ++ map point_words (drop l.k l.made) ≡ map point_words l.made))
+
+abbrev pub decreases-loop-k : goal.decreases-loop-k
+decreases-loop-k l = 16 - l.k

@@ -1,0 +1,36 @@
+-- `simjaldek_abi::inner::slices::points_row_refusal` meets its contract: the tests stand in the table's order. Assumes nothing.
+use mathlib.Core.Path.{refl, sym, ◌∙◌}
+use borrow.Author.Tests.{lt-ltb, le-ltb}
+use Rattle.limits.proofs.Refusals.{refused_here, refused-later, or_here, or_later}
+use borrow.Author.Rules.{rules}
+use Rattle.simjaldek_abi.proofs.inner.slices.points_row_refusal.Goals as goal
+
+pub returns-then-bad_count : goal.returns-then-bad_count
+returns-then-bad_count c = sym (refused_here 1 _ (sym c.bad_count.ensures ∙ c.if-bad_count.true))
+
+pub returns-then-bad_width : goal.returns-then-bad_width
+returns-then-bad_width c =
+    sym
+    (refused-later 1 (sym c.bad_count.ensures ∙ c.if-bad_count.false)
+    (refused_here 2 _ (sym c.bad_width.ensures ∙ c.if-bad_width.true)))
+
+pub returns-then-points : goal.returns-then-points
+returns-then-points c =
+    sym
+    (refused-later 1 (sym c.bad_count.ensures ∙ c.if-bad_count.false)
+    (refused-later 2 (sym c.bad_width.ensures ∙ c.if-bad_width.false)
+    (refused_here 4 0 (or_here _ (lt-ltb _ _ c.if-points.true)))))
+
+pub returns-then-row-lt-ROW_WORDS : goal.returns-then-row-lt-ROW_WORDS
+returns-then-row-lt-ROW_WORDS c =
+    sym
+    (refused-later 1 (sym c.bad_count.ensures ∙ c.if-bad_count.false)
+    (refused-later 2 (sym c.bad_width.ensures ∙ c.if-bad_width.false)
+    (refused_here 4 0 (or_later (le-ltb _ _ c.if-points.false) (lt-ltb _ _ c.if-row-lt-ROW_WORDS.true)))))
+
+pub returns : goal.returns
+returns c =
+    sym
+    (refused-later 1 (sym c.bad_count.ensures ∙ c.if-bad_count.false)
+    (refused-later 2 (sym c.bad_width.ensures ∙ c.if-bad_width.false)
+    (refused-later 4 (or_later (le-ltb _ _ c.if-points.false) (le-ltb _ _ c.if-row-lt-ROW_WORDS.false)) refl)))
