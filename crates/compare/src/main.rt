@@ -8,8 +8,14 @@ ghost use Rattle.std.specs.Prelude.{◌≤◌, length};
 use compare_lines::inner::scan;
 use compare_lines::inner::scan::Scan;
 use compare_texts::Case;
+use std::fs;
+use std::io::{self, Read};
+use std::rt::{Env, Files};
 
 const LINE_NUMBERS: usize = 512;
+
+// No path is longer.
+const PATH_MAX: usize = 4096;
 
 #[derive(Clone, Copy)]
 struct Tally {
@@ -37,11 +43,9 @@ fn one_more(n: u64) -> u64 {
     std::num::wrapping_add_u64(n, 1)
 }
 
-// Names a line, or a case by its first line, on standard error.
-fn tell(line: u64) {
-    io::write_all(2, b"differs: line ");
-    io::print_decimal(2, line);
-    io::write_all(2, b"\n");
+// Names a line, or a case by its first line, on standard error. Where that can't be written the count still stands.
+fn tell(rt: &impl Eprint, line: u64) {
+    let _ = eprintln!(rt; "differs: line {line}");
 }
 
 // One line of a data file against our own answer. The first number is the kind; the head of each data file tells what follows.
@@ -94,7 +98,7 @@ fn is_same(numbers: &[u64], s: Scan) -> bool
 }
 
 // A line at its end is compared, unless it is empty or a comment.
-fn settle(numbers: &[u64], s: Scan, mut t: Tally) -> Tally
+fn settle(rt: &impl Eprint, numbers: &[u64], s: Scan, mut t: Tally) -> Tally
     requires { s.count ≤ length numbers.now }
 {
     t.lines = one_more(t.lines);
@@ -109,7 +113,7 @@ fn settle(numbers: &[u64], s: Scan, mut t: Tally) -> Tally
         return t;
     }
     t.different = one_more(t.different);
-    tell(t.lines);
+    tell(rt, t.lines);
     t
 }
 
@@ -125,16 +129,16 @@ fn case_of(numbers: &[u64], s: Scan, line: u64) -> Case
 }
 
 // A case at its end, or at the file's.
-fn settle_case(c: Case, mut t: Tally) -> Tally {
+fn settle_case(rt: &impl Eprint, c: Case, mut t: Tally) -> Tally {
     if c.open || !c.same {
         t.different = one_more(t.different);
-        tell(c.line);
+        tell(rt, c.line);
     }
     t
 }
 
 // A further byte of an open case; line ends within it count.
-fn feed_case(out: &mut [u8], c: Case, mut t: Tally, byte: u8) -> Progress
+fn feed_case(rt: &impl Eprint, out: &mut [u8], c: Case, mut t: Tally, byte: u8) -> Progress
     ensures { result.scan.count ≤ 0 }
 {
     if byte == b'\n' {
@@ -142,7 +146,7 @@ fn feed_case(out: &mut [u8], c: Case, mut t: Tally, byte: u8) -> Progress
     }
     let case = compare_texts::feed(out, c, byte);
     if !case.open {
-        t = settle_case(case, t);
+        t = settle_case(rt, case, t);
     }
     Progress {
         scan: Scan::new(),
@@ -153,7 +157,7 @@ fn feed_case(out: &mut [u8], c: Case, mut t: Tally, byte: u8) -> Progress
 }
 
 // A further byte of a line.
-fn feed_line(numbers: &mut [u64], p: Progress, byte: u8) -> Progress
+fn feed_line(rt: &impl Eprint, numbers: &mut [u64], p: Progress, byte: u8) -> Progress
     requires { p.scan.count ≤ length numbers.old }
     ensures { result.scan.count ≤ length numbers.new }
 {
@@ -168,7 +172,7 @@ fn feed_line(numbers: &mut [u64], p: Progress, byte: u8) -> Progress
             state: 0,
         };
     }
-    let t = settle(numbers, s, tally);
+    let t = settle(rt, numbers, s, tally);
     let case = case_of(numbers, s, t.lines);
     Progress {
         scan: Scan::new(),
@@ -178,25 +182,37 @@ fn feed_line(numbers: &mut [u64], p: Progress, byte: u8) -> Progress
     }
 }
 
-fn feed_byte(numbers: &mut [u64], out: &mut [u8], p: Progress, byte: u8) -> Progress
+fn feed_byte(
+    rt: &impl Eprint,
+    numbers: &mut [u64],
+    out: &mut [u8],
+    p: Progress,
+    byte: u8,
+) -> Progress
     requires { p.scan.count ≤ length numbers.old }
     ensures { result.scan.count ≤ length numbers.new }
 {
     if p.case.open {
-        return feed_case(out, p.case, p.tally, byte);
+        return feed_case(rt, out, p.case, p.tally, byte);
     }
-    feed_line(numbers, p, byte)
+    feed_line(rt, numbers, p, byte)
 }
 
 // The bytes of one read.
-fn feed_part(numbers: &mut [u64], out: &mut [u8], part: &[u8], p: Progress) -> Progress
+fn feed_part(
+    rt: &impl Eprint,
+    numbers: &mut [u64],
+    out: &mut [u8],
+    part: &[u8],
+    p: Progress,
+) -> Progress
     requires { p.scan.count ≤ length numbers.old }
     ensures { result.scan.count ≤ length numbers.new }
 {
     let mut q = p;
     let mut i: usize = 0;
     while i < part.len() {
-        q = feed_byte(numbers, out, q, part[i]);
+        q = feed_byte(rt, numbers, out, q, part[i]);
         i += 1;
     }
     q
@@ -210,31 +226,39 @@ fn at_state(mut p: Progress, state: u8) -> Progress
     p
 }
 
-fn read_some(numbers: &mut [u64], out: &mut [u8], fd: i32, p: Progress) -> Progress
+fn read_some(
+    rt: &impl Eprint,
+    numbers: &mut [u64],
+    out: &mut [u8],
+    file: &mut impl Read,
+    p: Progress,
+) -> Progress
     requires { p.scan.count ≤ length numbers.old }
     ensures { result.scan.count ≤ length numbers.new }
 {
     let mut buffer = [0u8; 65536];
-    let got = libc::read(fd, &mut buffer);
-    if got < 0 {
-        return at_state(p, 2);
+    match file.read(&mut buffer) {
+        Ok(0) => at_state(p, 1),
+        Ok(n) => feed_part(rt, numbers, out, &buffer[..n], p),
+        Err(_) => at_state(p, 2),
     }
-    if got == 0 {
-        return at_state(p, 1);
-    }
-    let n = io::count(got, &buffer);
-    feed_part(numbers, out, &buffer[..n], p)
 }
 
 // Read after read to the file's end, or to a read that fails.
-fn read_all(numbers: &mut [u64], out: &mut [u8], fd: i32, p: Progress) -> Progress
+fn read_all(
+    rt: &impl Eprint,
+    numbers: &mut [u64],
+    out: &mut [u8],
+    file: &mut impl Read,
+    p: Progress,
+) -> Progress
     requires { p.scan.count ≤ length numbers.old }
     ensures { result.scan.count ≤ length numbers.new }
 {
     let mut q = p;
     let mut turns: u64 = 0;
     while turns < 0x100_0000 {
-        q = read_some(numbers, out, fd, q);
+        q = read_some(rt, numbers, out, file, q);
         turns += 1;
         if q.state != 0 {
             return q;
@@ -244,21 +268,21 @@ fn read_all(numbers: &mut [u64], out: &mut [u8], fd: i32, p: Progress) -> Progre
 }
 
 // The file is at its end: a last line without a line end, or a case that isn't whole.
-fn end_file(numbers: &mut [u64], out: &mut [u8], p: Progress) -> Tally
+fn end_file(rt: &impl Eprint, numbers: &mut [u64], out: &mut [u8], p: Progress) -> Tally
     requires { p.scan.count ≤ length numbers.old }
 {
     if p.case.open {
-        return settle_case(p.case, p.tally);
+        return settle_case(rt, p.case, p.tally);
     }
-    let last = feed_part(numbers, out, b"\n", p);
+    let last = feed_part(rt, numbers, out, b"\n", p);
     if last.case.open {
-        return settle_case(last.case, last.tally);
+        return settle_case(rt, last.case, last.tally);
     }
     last.tally
 }
 
-// A whole file, its lines counted anew; one that isn't read to its end counts as a difference.
-fn compare_file(fd: i32, mut t: Tally) -> Tally {
+// A whole file, its lines counted anew; one that isn't read to its end is named on standard error, and counts as a difference.
+fn compare_file(rt: &impl Eprint, path: &str, file: &mut impl Read, mut t: Tally) -> Tally {
     t.lines = 0;
     let mut numbers = [0u64; LINE_NUMBERS];
     let mut out = [0u8; compare_texts::PRINTED_MAX];
@@ -268,41 +292,57 @@ fn compare_file(fd: i32, mut t: Tally) -> Tally {
         tally: t,
         state: 0,
     };
-    let q = read_all(&mut numbers, &mut out, fd, p);
+    let q = read_all(rt, &mut numbers, &mut out, file, p);
     let state = q.state;
-    let mut end = end_file(&mut numbers, &mut out, q);
+    let mut end = end_file(rt, &mut numbers, &mut out, q);
     if state != 1 {
+        let _ = eprintln!(rt; "{path}: not read to its end");
         end.different = one_more(end.different);
     }
     end
 }
 
-// The file that argument k names; one that can't be opened counts as a difference.
-fn compare_argument(k: usize, mut t: Tally) -> Argument {
-    let mut path = io::buffer();
-    let length = os::arg(k, &mut path);
-    if os::errno() != 0 {
-        return Argument {
+// The file at a path; one that can't be opened is named on standard error, and counts as a difference.
+fn compare_path(rt: &(impl Files + Eprint), path: &str, mut t: Tally) -> Tally {
+    match fs::open(rt, path) {
+        Ok(mut file) => compare_file(rt, path, &mut file, t),
+        Err(error) => {
+            let _ = eprintln!(rt; "{path}: {error}");
+            t.different = one_more(t.different);
+            t
+        }
+    }
+}
+
+// The file that an argument names. A path is UTF-8, so a file of another name can't be opened.
+fn compare_name(rt: &(impl Files + Eprint), name: &[u8], mut t: Tally) -> Tally {
+    match str::from_utf8(name) {
+        Ok(path) => compare_path(rt, path, t),
+        Err(error) => {
+            let _ = eprintln!(rt; "{}: {error}", name.escape_ascii());
+            t.different = one_more(t.different);
+            t
+        }
+    }
+}
+
+// The file that argument k names. An argument longer than any path counts as not given.
+fn compare_argument(rt: &(impl Env + Files + Eprint), k: usize, t: Tally) -> Argument {
+    let mut name = [0u8; PATH_MAX];
+    match rt.arg(k, &mut name) {
+        Ok(length) => Argument {
+            given: true,
+            tally: compare_name(rt, &name[..length], t),
+        },
+        Err(_) => Argument {
             given: false,
             tally: t,
-        };
+        },
     }
-    let fd = os::open_read(&path[..length]);
-    if fd < 0 {
-        os::fail(&path[..length]);
-        t.different = one_more(t.different);
-        return Argument {
-            given: true,
-            tally: t,
-        };
-    }
-    let tally = compare_file(fd, t);
-    libc::close(fd);
-    Argument { given: true, tally }
 }
 
 // All arguments, up to the first that is not given.
-fn compare_all() -> Tally {
+fn compare_all(rt: &(impl Env + Files + Eprint)) -> Tally {
     let mut t = Tally {
         lines: 0,
         compared: 0,
@@ -310,7 +350,7 @@ fn compare_all() -> Tally {
     };
     let mut k: usize = 1;
     while k < 1000 {
-        let a = compare_argument(k, t);
+        let a = compare_argument(rt, k, t);
         t = a.tally;
         k += 1;
         if !a.given {
@@ -320,10 +360,7 @@ fn compare_all() -> Tally {
     t
 }
 
-fn main() {
-    let t = compare_all();
-    io::print_decimal(1, t.compared);
-    io::write_all(1, b" comparisons, ");
-    io::print_decimal(1, t.different);
-    io::write_all(1, b" differences\n");
+fn main(rt: HostRuntime) -> io::Result<()> {
+    let t = compare_all(&rt);
+    println!(rt; "{} comparisons, {} differences", t.compared, t.different)
 }

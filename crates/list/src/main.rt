@@ -2,20 +2,17 @@
 #![tactic(auto)]
 
 use listing::ListingAnswer;
+use std::io;
 
-// A read that fails is told on standard error, and nothing is listed. The buffer is as long as refusal 4 asks.
-fn main() {
-    let t = text_io::read_all();
-    if t.state != 1 {
-        os::fail(b"standard input");
-        return;
-    }
-    let p = t.parse;
+// A read or a write that fails is an error; after a read that fails nothing is listed. The buffer is as long as refusal 4 asks.
+fn main(rt: HostRuntime) -> io::Result<()> {
+    let t = text_io::read_all(&mut rt.stdin())?;
     let mut text = [0u8; 131072];
-    match listing::write_listing(&mut text, p) {
+    match listing::write_listing(&mut text, t.parse) {
         ListingAnswer::Written(n) => {
-            text_io::write_text(&text, n);
+            text_io::write_text(&mut rt.stdout(), &text, n)?;
         }
         ListingAnswer::Refused(_) => {}
     }
+    Ok(())
 }

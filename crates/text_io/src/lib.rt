@@ -1,13 +1,15 @@
 // Standard input as a text that is read, and standard output: what the programs over text_parse share.
 #![tactic(auto)]
 
+ghost use Rattle.std.specs.Prelude.{◌≡◌, ◌^◌, ◌<◌, ◌≤◌, ◌↔◌, true, IfOk, IfSome, length, take};
+ghost use Rattle.std.specs.Io.KnownBytes.{Appends};
+ghost use Rattle.text_parse.specs.Reading.{Reads};
+ghost use Rattle.text_io.specs.Reader.{ReadsOn};
+
+use std::io::{self, Read, Write};
 use text_parse::Parse;
 
-const STANDARD_INPUT: i32 = 0;
-
-const STANDARD_OUTPUT: i32 = 1;
-
-// A reading, and whether to go on: 0 go on, 1 the text is at its end, 2 a read failed.
+// A reading, and whether to go on: 0 go on, 1 the text is at its end.
 #[derive(Clone, Copy)]
 pub struct Turn {
     pub parse: Parse,
@@ -15,43 +17,44 @@ pub struct Turn {
 }
 
 // One read.
-fn read_some(p: Parse) -> Turn {
+fn read_some<R: Read>(reader: &mut R, p: Parse) -> io::Result<Turn>
+    ensures { IfOk result (λ t. ReadsOn (R.remaining reader.old) (R.remaining reader.new) p t) }
+{
     let mut buffer = [0u8; 65536];
-    let got = libc::read(STANDARD_INPUT, &mut buffer);
-    if got < 0 {
-        return Turn { parse: p, state: 2 };
+    let n = reader.read(&mut buffer)?;
+    if n == 0 {
+        return Ok(Turn { parse: p, state: 1 });
     }
-    if got == 0 {
-        return Turn { parse: p, state: 1 };
-    }
-    let n = io::count(got, &buffer);
     let q = text_parse::feed(p, &buffer[..n]);
-    Turn { parse: q, state: 0 }
+    Ok(Turn { parse: q, state: 0 })
 }
 
-// Read after read to the text's end, or to a read that fails. A loop has to end: no run uses up 2^40 reads.
-pub fn read_all() -> Turn {
+// Read after read to the text's end; a read that fails is an error. A loop has to end: no run uses up 2^40 reads.
+pub fn read_all<R: Read>(reader: &mut R) -> io::Result<Turn>
+    ensures ended { IfOk result (λ t. t.state ≡ 1) }
+    ensures reads { IfOk result (λ t. IfSome (R.remaining reader.old) (λ text. length text < 2 ^ 64 → Reads t.parse text)) }
+{
     let mut p = text_parse::begin();
     let mut turns: u64 = 0;
     while turns < 0x100_0000_0000 {
-        let t = read_some(p);
+        let t = read_some(reader, p)?;
         turns += 1;
         if t.state != 0 {
-            return t;
+            return Ok(t);
         }
         p = t.parse;
     }
-    Turn { parse: p, state: 2 }
+    Err(io::Error::from(io::ErrorKind::FileTooLarge))
 }
 
-// Writes the first n bytes of a buffer that is at least as long. Whether all of them were written; where they weren't, why is told on standard error.
-pub fn write_text(text: &[u8], n: usize) -> bool {
+// Writes the first n bytes of a buffer that is at least as long. Whether it is that long, and so all of them were written; a write that fails is an error.
+pub fn write_text<W: Write>(writer: &mut W, text: &[u8], n: usize) -> io::Result<bool>
+    ensures all { IfOk result (λ done. done ≡ true ↔ n ≤ length text.now) }
+    ensures bytes { IfOk result (λ done. done ≡ true → Appends (W.contents writer.old) (W.contents writer.new) (take n text.now)) }
+{
     if text.len() < n {
-        return false;
+        return Ok(false);
     }
-    if io::write_all(STANDARD_OUTPUT, &text[..n]) {
-        return true;
-    }
-    os::fail(b"standard output");
-    false
+    writer.write_all(&text[..n])?;
+    Ok(true)
 }

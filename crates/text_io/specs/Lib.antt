@@ -1,0 +1,2 @@
+-- What the contracts of text_io say.
+pub mod Reader
