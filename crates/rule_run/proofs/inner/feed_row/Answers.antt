@@ -15,12 +15,12 @@ feed-bits-requires c = (omega (arith, c.requires.0, c.loop-j.invariant.1.0), c.r
 pub loop-j-preserved : goal.loop-j-preserved
 loop-j-preserved c =
     let l = c.loop-j in
-    let r = c.feed-bits in (
+    (
       omega arith,
       (
-        r.auto.0 ∙ l.invariant.1.0,
+        c.feed-bits.auto.answers ∙ l.invariant.1.0,
         λ mark t old e f.
-            fed_at (c.args.at + (l.j + 1)) (omega arith) (r.ensures mark t old (e l.j (omega arith)) (l.invariant.1.1 mark t old e f)),
+            fed_at (c.args.at + (l.j + 1)) (omega arith) (c.feed-bits.ensures mark t old (e l.j (omega arith)) (l.invariant.1.1 mark t old e f)),
       ),
     )
 

@@ -14,7 +14,7 @@ pub overflow_mul-at : goal.overflow_mul-at
 overflow_mul-at c = omega arith
 
 pub run_rest-requires : goal.run_rest-requires
-run_rest-requires c = (c.requires.0, (omega arith, omega (arith, c.requires.1, c.run_rows-bits.auto.0)))
+run_rest-requires c = (c.requires.0, (omega arith, omega (arith, c.requires.1, c.run_rows-bits.auto.answers)))
 
 pub returns : goal.returns
 returns c =

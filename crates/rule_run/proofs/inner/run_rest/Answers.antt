@@ -63,12 +63,12 @@ pub loop-k-preserved : goal.loop-k-preserved
 loop-k-preserved c =
     let a = c.args in
     let l = c.loop-k in
-    let r = c.feed-bits in (
+    (
       omega arith,
       (
-        r.auto.0 ∙ l.invariant.1.0,
+        c.feed-bits.auto.answers ∙ l.invariant.1.0,
         λ s old f.
-            r.ensures (mark_at a.nv a.w (tokens a.count a.ops.now a.operands.now) a.records.now) s old
+            c.feed-bits.ensures (mark_at a.nv a.w (tokens a.count a.ops.now a.operands.now) a.records.now) s old
             (mark-is a.nv a.w (tokens a.count a.ops.now a.operands.now) a.records.now _ l.k c.eval_tokens-value.result (part_is a.nv a.records.now l.k) c.eval_tokens-value.ensures)
             (l.invariant.1.1 s old f),
       ),

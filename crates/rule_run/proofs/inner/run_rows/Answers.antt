@@ -80,20 +80,19 @@ pub loop-k-preserved : goal.loop-k-preserved
 loop-k-preserved c =
     let a = c.args in
     let l = c.loop-k in
-    let e = c.eval_row-row in
-    let r = c.feed_row-bits in (
+    (
       omega arith,
       (
-        e.auto.0 ∙ l.invariant.1.0,
+        c.eval_row-row.auto.stack ∙ l.invariant.1.0,
         (
-          r.auto.0 ∙ l.invariant.1.1.0,
+          c.feed_row-bits.auto.answers ∙ l.invariant.1.1.0,
           λ s old f.
               fed_at (16 * (l.k + 1)) (omega arith)
-              (r.ensures (mark_at a.nv a.w (tokens a.count a.ops.now a.operands.now) a.records.now) s old
+              (c.feed_row-bits.ensures (mark_at a.nv a.w (tokens a.count a.ops.now a.operands.now) a.records.now) s old
               (λ j h.
               mark-is a.nv a.w (tokens a.count a.ops.now a.operands.now) a.records.now _ (16 * l.k + j) _
               (ap (λ (p : List ℕ). part_at a.nv p j) (part_is (16 * a.nv) a.records.now l.k) ∙ part_part a.nv 16 a.records.now l.k j h)
-              (e.ensures j h))
+              (c.eval_row-row.ensures j h))
               (l.invariant.1.1.1 s old f)),
         ),
       ),

@@ -1,0 +1,13 @@
+-- `bank_atom::inner::seeds_of` meets its contract: what is left to take from here on gives the seeds. Assumes nothing.
+use mathlib.Core.Path.{refl}
+use Prim.Native.Nat.{◌-◌, ◌≤◌}
+use Rattle.bank_atom.proofs.SeedLaws.{Seeding, seeding_first, seeding_more, seeding_done}
+use borrow.Author.Rules.{rules}
+use native.Mathlib.Omega.{arith}
+use Rattle.bank_atom.proofs.inner.seeds_of.Given as goal
+
+abbrev pub invariant-loop-i : goal.invariant-loop-i
+invariant-loop-i l = (l.i ≤ 16) × Seeding l.target l.s l.most l.i
+
+abbrev pub decreases-loop-i : goal.decreases-loop-i
+decreases-loop-i l = 16 - l.i

@@ -1,0 +1,17 @@
+-- `bank_atom::inner::unary_row` meets its contract: the places passed hold what the token gives there. Assumes nothing.
+use mathlib.Core.Path.{◌≡◌, refl}
+use Prim.Native.Nat.{ℕ, ◌-◌, ◌≤◌}
+use lib.ListN.{length, get_or, length-set}
+use Rattle.arrays.proofs.Fill.{Filled, filled_more}
+use Rattle.bank_atom.specs.Entry.{unary_of}
+use Rattle.bank_atom.proofs.Making.{unary_row-is}
+use borrow.Author.Rules.{rules}
+use native.Mathlib.Omega.{arith}
+use Rattle.bank_atom.proofs.inner.unary_row.Given as goal
+
+abbrev pub invariant-loop-k : goal.invariant-loop-k
+invariant-loop-k l =
+    (l.k ≤ 16) × ((length l.out ≡ 16) × Filled (λ (j : ℕ). unary_of l.u l.w (get_or l.row j 0)) l.out l.k)
+
+abbrev pub decreases-loop-k : goal.decreases-loop-k
+decreases-loop-k l = 16 - l.k

@@ -1,0 +1,19 @@
+-- `bank_atom::inner::variable_row` meets its contract: the places passed hold the reduced word of their points. Assumes nothing.
+use mathlib.Core.Path.{◌≡◌, refl}
+use mathlib.Core.List.{[], ◌∷◌}
+use Prim.Native.Nat.{ℕ, ◌-◌, ◌≤◌}
+use lib.ListN.{length, get_or, length-set}
+use Rattle.arrays.proofs.Fill.{Filled, filled_more}
+use Rattle.expr.specs.declared.Token.TheVariants.{Variable}
+use Rattle.probe.specs.FormulaRow.{row_of}
+use Rattle.bank_atom.proofs.Making.{variable-word, variable-row-is}
+use borrow.Author.Rules.{rules}
+use native.Mathlib.Omega.{arith}
+use Rattle.bank_atom.proofs.inner.variable_row.Given as goal
+
+abbrev pub invariant-loop-k : goal.invariant-loop-k
+invariant-loop-k l =
+    (l.k ≤ 16) × ((length l.row ≡ 16) × Filled (λ (j : ℕ). get_or (row_of l.w l.points (Variable l.i ∷ [])) j 0) l.row l.k)
+
+abbrev pub decreases-loop-k : goal.decreases-loop-k
+decreases-loop-k l = 16 - l.k

@@ -1,0 +1,10 @@
+-- `bank_parts::inner::load_ops` meets its contract: the part that is copied is the slot's. Assumes nothing.
+use mathlib.Core.Path.{◌∙◌}
+use borrow.Author.Rules.{rules}
+use Rattle.arrays.proofs.Parts.{part_is}
+use Rattle.bank_parts.proofs.inner.load_ops.Goals as goal
+
+pub returns : goal.returns
+returns c =
+    let s = c.args in
+    c.copy_bytes.ensures ∙ part_is 6 s.ops.now s.slot.0

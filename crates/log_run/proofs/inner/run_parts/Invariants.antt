@@ -1,0 +1,21 @@
+-- `log_run::inner::run_parts` meets its contract: part after part. Assumes nothing.
+use Rattle.arrays.proofs.Parts.{part_from}
+use mathlib.Core.Path.{◌≡◌, refl, sym, ap, ◌∙◌}
+use mathlib.Core.List.{List}
+use Prim.Native.Nat.{ℕ, ◌+◌, ◌-◌, ◌*◌, ◌≤◌, ◌<◌}
+use lib.ListN.{length, take, drop}
+use Rattle.log_rules.specs.Rules.{rules_in}
+use Rattle.log_rules.specs.Steps.{formulas_refusal}
+use Rattle.log_run.specs.declared.Log.{Log}
+use Rattle.log_run.specs.Step.{log_after}
+use Rattle.log_run.specs.Steps.{open_log}
+use Rattle.log_run.proofs.Stepping.{after_none, after-joined, fits_part, lends_part}
+use borrow.Author.Rules.{rules}
+use native.Mathlib.Omega.{arith}
+use Rattle.log_run.proofs.inner.run_parts.Given as goal
+
+abbrev pub invariant-loop-at : goal.invariant-loop-at
+invariant-loop-at l = (l.at ≤ l.n) × ((l.words ≡ l.nv) × ((length l.seen ≡ length l.initial.seen) × ((0 < l.at → formulas_refusal l.nv (rules_in l.count l.ranks l.ms l.windows l.token_counts l.ops l.operands) l.count ≡ 0) × (open_log l.seen l.now ≡ log_after l.nv l.w (rules_in l.count l.ranks l.ms l.windows l.token_counts l.ops l.operands) l.records (open_log l.initial.seen l.initial.now) l.at))))
+
+abbrev pub decreases-loop-at : goal.decreases-loop-at
+decreases-loop-at l = l.n - l.at

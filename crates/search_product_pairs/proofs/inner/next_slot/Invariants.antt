@@ -1,0 +1,17 @@
+-- `search_product_pairs::inner::next_slot` meets its contract: nothing fits up to slot s. Where the second products differ none fits. Assumes nothing.
+use mathlib.Core.Path.{◌≡◌, sym, ◌∙◌}
+use mathlib.Core.Bool.{false}
+use mathlib.Core.Logic.{inl, inr}
+use Prim.Native.Nat.{ℕ, ◌-◌, ◌≤◌, ◌<◌}
+use Rattle.search_product_trial.specs.Steps.{fits_at}
+use Rattle.search_product_trial.proofs.Trials.{fits_not}
+use Rattle.search_product_trial.proofs.Firsts.{skip_more}
+use native.Mathlib.Omega.{arith}
+use borrow.Author.Rules.{rules}
+use Rattle.search_product_pairs.proofs.inner.next_slot.Given as goal
+
+abbrev pub invariant-loop-s : goal.invariant-loop-s
+invariant-loop-s l = (l.from ≤ l.s) × (l.s ≤ l.n) × ((k : ℕ) → l.from ≤ k → k < l.s → fits_at l.w l.target l.atoms l.a l.listed k ≡ false)
+
+abbrev pub decreases-loop-s : goal.decreases-loop-s
+decreases-loop-s l = l.n - l.s

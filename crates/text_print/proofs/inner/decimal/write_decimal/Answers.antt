@@ -1,0 +1,9 @@
+-- `text_print::inner::decimal::write_decimal` meets its contract: what is left, and the last eight digits after it. Assumes nothing.
+use native.Mathlib.Omega.{arith}
+use borrow.Author.Rules.{rules}
+use mathlib.Core.Path.{sym}
+use Rattle.text_print.proofs.Decimals.{then, reads, decimal_eights}
+use Rattle.text_print.proofs.inner.decimal.write_decimal.Goals as goal
+
+pub returns : goal.returns
+returns c = reads (sym (decimal_eights c.args.x (omega arith) (search rules))) (then c.write_twelve-p.ensures.wrote c.put_eight.ensures.wrote)

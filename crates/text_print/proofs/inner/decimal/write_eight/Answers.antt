@@ -1,0 +1,12 @@
+-- `text_print::inner::decimal::write_eight` meets its contract: what is left, and the last digits after it. Assumes nothing.
+use native.Mathlib.Omega.{arith}
+use borrow.Author.Rules.{rules}
+use mathlib.Core.Path.{sym}
+use Rattle.text_print.proofs.Decimals.{then, reads, decimal_fours}
+use Rattle.text_print.proofs.inner.decimal.write_eight.Goals as goal
+
+pub returns : goal.returns
+returns c = record {
+      wrote = reads (sym (decimal_fours c.args.x (omega arith) (search rules))) (then c.write_four-p.ensures.wrote c.put_four.ensures.wrote);
+      upper_bound = omega (arith, c.write_four-p.ensures.upper_bound, c.put_four.ensures.value);
+    }
