@@ -75,7 +75,9 @@ class Kit:
             folder = os.path.join(repository.folder(name), 'out', 'rlib') if name in repository.needs else kits
             rlib = os.path.join(folder, name + '.rlib')
             if not os.path.exists(rlib):
-                sys.exit('%s is not proved yet: run `rt check` in the folder of %s' % (name, crate))
+                said, _ = run_rt(repository, crate, 'check', '--only', '')  # builds the libraries, and proves nothing of the crate
+            if not os.path.exists(rlib):
+                sys.exit('%s is not proved yet: %s' % (name, said[-2000:]))
             words += ['--extern', '%s=%s' % (name, rlib)]
         for folder in [kits] + [os.path.join(repository.folder(name), 'out', 'rlib') for name in repository.below(crate)]:
             words += ['-L', 'dependency=' + folder]
