@@ -1,0 +1,19 @@
+-- `bank::inner::point_reaches` meets its contract: the words passed are below 2 ^ w. Assumes nothing.
+use mathlib.Core.Path.{◌≡◌, refl, sym, ◌∙◌}
+use Prim.Native.Nat.{◌-◌, ◌^◌, ◌≤◌, ◌<◌}
+use native.Mathlib.Omega.{arith}
+use borrow.Author.Rules.{rules}
+use lib.ListN.{length, get_or, take, drop}
+use lib.Seq.{length-take-le, get_or-take}
+use Rattle.arith.specs.Word.{modulus}
+use Rattle.row_lent.specs.Range.{reaches}
+use Rattle.arith.proofs.Remainders.{mask_lt, mask_le}
+use Rattle.row_lent.proofs.Reaching.{reaches_here, reaches-later, reaches-none}
+use Rattle.bank.proofs.inner.point_reaches.Given as goal
+
+abbrev pub invariant-loop-i : goal.invariant-loop-i
+invariant-loop-i l =
+    (l.i ≤ l.nv) × ((l.mask ≡ modulus l.w - 1) × (reaches (2 ^ l.w) (drop l.i (take l.nv l.p.words)) ≡ reaches (2 ^ l.w) (take l.nv l.p.words)))
+
+abbrev pub decreases-loop-i : goal.decreases-loop-i
+decreases-loop-i l = l.nv - l.i
