@@ -8,7 +8,7 @@ signal.signal(signal.SIGPIPE, signal.SIG_DFL)
 
 
 def find_root():
-    """The folder with crates.txt, this one or one above it, as `rt` finds it."""
+    """The folder with crates.txt, this one or one above it."""
     folder = os.getcwd()
     while not os.path.isfile(os.path.join(folder, 'crates.txt')):
         above = os.path.dirname(folder)
@@ -21,16 +21,34 @@ def find_root():
 class Repository:
     def __init__(self, root=None):
         self.root = os.path.abspath(root) if root else find_root()
-        self.target = os.path.join(self.root, 'target')
-        self.needs = {}
+        # what tools keep; git passes it over
+        self.out = os.path.join(self.root, 'out')
+        self.needs, self.static = {}, set()
         with open(os.path.join(self.root, 'crates.txt'), encoding='utf8') as listed:
             for line in listed:
-                name, colon, rest = line.split('#')[0].partition(':')
+                head, colon, rest = line.split('#')[0].partition(':')
                 if colon:
-                    self.needs[name.strip()] = rest.split()
+                    # after the name may stand `staticlib` and other words
+                    name, *words = head.split()
+                    self.needs[name] = rest.split()
+                    if 'staticlib' in words:
+                        self.static.add(name)
 
     def folder(self, crate):
         return os.path.join(self.root, 'crates', crate)
+
+    def known(self, crate):
+        """The crate's name; the tool ends where crates.txt lacks it."""
+        if crate not in self.needs:
+            sys.exit('crates.txt has no crate %s' % crate)
+        return crate
+
+    def below(self, crate):
+        """The crates of this repository that a crate stands on."""
+        found = []
+        for need in self.needs.get(crate, ()):
+            found += [name for name in self.below(need) + [need] if name in self.needs and name not in found]
+        return found
 
     def is_program(self, crate):
         return os.path.isfile(os.path.join(self.folder(crate), 'src', 'main.rt'))

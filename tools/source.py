@@ -21,8 +21,9 @@ COMPARISONS = ('==', '!=', '<', '<=', '>', '>=')
 NUMBER_TYPE = re.compile(r'(u8|u16|u32|u64|usize)$')
 
 Token = namedtuple('Token', 'kind text start end')
-# the parameters are (name, type); the body's braces are the tokens `first` and `last`
-Function = namedtuple('Function', 'name line params result first last')
+# the parameters are (name, type); the body's braces are the tokens `first` and `last`; `type` is that of its `impl`, or ''; functions of one
+# cycle have one proof
+Function = namedtuple('Function', 'name line params result first last type cycle')
 # the tokens of the value are `first` up to `last`
 Constant = namedtuple('Constant', 'name type first last')
 # a parameter or local, and the token from which on it can be used
@@ -111,7 +112,7 @@ def without_clauses(text):
             blank(*found.span())
     for found in re.finditer(r'^\s*ghost use [^;]*;', text, re.M):
         blank(*found.span())
-    for found in re.finditer(r'^\s*(requires|ensures)\s*\{', text, re.M):
+    for found in re.finditer(r'^\s*(?:requires|ensures|ghost)\b\*?[^\n{};]*\{', text, re.M):
         depth, k = 1, found.end()
         while depth:
             depth += (text[k] == '{') - (text[k] == '}')
@@ -130,8 +131,8 @@ class Source:
         found = [Token(m.lastgroup, m.group(), m.start(), m.end()) for m in TOKEN.finditer(without_clauses(text))]
         end = Token('end', '', len(text), len(text))
         self.tokens = [token for token in found if token.kind not in ('comment', 'space')] + [end, end]  # so that one may look ahead
-        self.functions, self.constants, self.structs, self.enums = [], [], {}, {}
-        readers = {'fn': self.function, 'const': self.constant, 'struct': self.struct, 'enum': self.enum}
+        self.functions, self.constants, self.structs, self.enums, self.impls = [], [], {}, {}, []
+        readers = {'fn': self.function, 'const': self.constant, 'struct': self.struct, 'enum': self.enum, 'impl': self.impl}
         i = 0
         while i < len(self.tokens):
             reader = readers.get(self.tokens[i].text)
@@ -139,6 +140,31 @@ class Source:
 
     def words(self, first, last):
         return [token.text for token in self.tokens[first:last]]
+
+    def impl(self, i):
+        """The type of an `impl` with the tokens of its braces."""
+        body = place_of(self.tokens, '{', i)
+        words = self.words(i + 1, body)
+        words = words[words.index('for') + 1:] if 'for' in words else words
+        self.impls.append((next(word for word in words if word[0].isalpha()), body, close_of(self.tokens, body)))
+        return body + 1
+
+    def cycle_before(self, i):
+        """The cycle that the attributes of the function at i name, or ''."""
+        first = i
+        while first and self.tokens[first - 1].text not in ('{', '}', ';'):
+            first -= 1
+        words = self.words(first, i)
+        return words[words.index('cycle') + 2] if 'cycle' in words else ''
+
+    def path(self, *names):
+        """The prover's name of something in this file."""
+        modules = [part for part in self.rel[len('src/'):-len('.rt')].split('/') if part not in ('lib', 'main', 'mod')]
+        return '::'.join([self.crate] + modules + list(names))
+
+    def uses(self, name):
+        """The functions of this file whose code names something."""
+        return [f for f in self.functions if name in self.words(f.first, f.last)]
 
     def function(self, i):
         tokens = self.tokens
@@ -157,7 +183,8 @@ class Source:
             at, result = body, type_text(self.words(at + 1, body))
         if tokens[at].text == '{':
             line = self.text.count('\n', 0, tokens[i].start) + 1
-            self.functions.append(Function(tokens[i + 1].text, line, params, result, at, close_of(tokens, at)))
+            type_ = next((type_ for type_, first, last in self.impls if first < i < last), '')
+            self.functions.append(Function(tokens[i + 1].text, line, params, result, at, close_of(tokens, at), type_, self.cycle_before(i)))
         return at
 
     def constant(self, i):
@@ -205,6 +232,20 @@ class World:
         for constant in source.constants:
             value = ''.join(source.words(constant.first, constant.last)).replace('_', '')
             self.constants.setdefault(constant.name, {}).setdefault(source.crate, (constant.type, value))
+
+    def path(self, source, function):
+        """The prover's name of a function: a method is named by the module of its type."""
+        if not function.type:
+            return source.path(function.name)
+        homes = [other for other in self.sources[source.crate] if function.type in other.structs or function.type in other.enums]
+        return (homes or [source])[0].path(function.type, function.name)
+
+    def users(self, crate, name):
+        """The prover's names of a crate's functions whose code names a constant, or another that is made of it."""
+        names = {name}
+        for _ in range(3):
+            names |= {c.name for source in self.sources[crate] for c in source.constants if names & set(source.words(c.first, c.last))}
+        return sorted({self.path(source, f) for source in self.sources[crate] for used in names for f in source.uses(used)})
 
     def constant(self, crate, name):
         """(type, number) of a constant, the crate's own or the only one of the name; None for none, the number None where it is computed."""

@@ -1,8 +1,8 @@
 //! Links the static library `libsimjaldek.a`.
 //!
 //! `SIMJALDEK_LIB_DIR` names, by its full path, a folder that holds a ready archive, of this very commit: nothing tests that it fits.
-//! Without it `rt staticlib simjaldek` runs at the repository's root, which proves what has changed since it was last proved, and the
-//! archive that it names is linked. Cargo is silent while it runs, so what takes long is told past it.
+//! Without it `rt lib` runs in crates/simjaldek, which proves what has changed since it was last proved, and out/libsimjaldek.a there is
+//! linked. Cargo is silent while it runs, so what takes long is told past it.
 
 use std::env;
 use std::fs::{self, OpenOptions};
@@ -47,17 +47,16 @@ fn ready_archive(folder: &Path) -> PathBuf {
 fn made_archive() -> PathBuf {
     let package = env::var_os("CARGO_MANIFEST_DIR").expect("cargo sets CARGO_MANIFEST_DIR");
     let root = Path::new(&package).join("../..");
-    for source in ["crates", "crates.txt"] {
-        println!("cargo:rerun-if-changed={}", root.join(source).display());
-    }
+    rerun_on_changes(&root);
+    let folder = root.join("crates/simjaldek");
     tell(
-        "rt staticlib simjaldek proves the crates first: from nothing some 6 minutes on two cores, \
-         seconds where proofs are kept; cargo is silent meanwhile",
+        "rt lib in crates/simjaldek proves the crates first: from nothing some minutes, seconds where proofs are \
+         kept; cargo is silent meanwhile",
     );
     let start = Instant::now();
     let output = Command::new("rt")
-        .args(["staticlib", "simjaldek"])
-        .current_dir(&root)
+        .arg("lib")
+        .current_dir(&folder)
         .output()
         .unwrap_or_else(|error| {
             panic!("rt, the Rattle kit's command: {error}; or set SIMJALDEK_LIB_DIR to the folder of a ready {ARCHIVE}")
@@ -66,14 +65,35 @@ fn made_archive() -> PathBuf {
     let said = String::from_utf8_lossy(&said);
     assert!(
         output.status.success(),
-        "rt staticlib simjaldek failed:\n{said}"
+        "rt lib in crates/simjaldek failed:\n{said}"
     );
     let seconds = start.elapsed().as_secs_f32();
-    tell(&format!("rt staticlib simjaldek took {seconds:.1} seconds"));
-    // it names the archive at its end
-    let mut words = said.split_whitespace().rev();
-    let named = words.find(|word| word.ends_with(ARCHIVE));
-    root.join(named.unwrap_or_else(|| panic!("rt staticlib simjaldek names no archive:\n{said}")))
+    tell(&format!(
+        "rt lib in crates/simjaldek took {seconds:.1} seconds"
+    ));
+    let archive = folder.join("out").join(ARCHIVE);
+    assert!(
+        archive.is_file(),
+        "rt lib in crates/simjaldek made no out/{ARCHIVE}:\n{said}"
+    );
+    archive
+}
+
+/// Has cargo run this again where a file of the crates changes. Their out/ folders aren't named, since `rt` writes to them.
+fn rerun_on_changes(root: &Path) {
+    println!(
+        "cargo:rerun-if-changed={}",
+        root.join("crates.txt").display()
+    );
+    let crates = fs::read_dir(root.join("crates")).expect("the repository has crates/");
+    for folder in crates.flatten() {
+        for part in ["src", "specs", "proofs"] {
+            let part = folder.path().join(part);
+            if part.is_dir() {
+                println!("cargo:rerun-if-changed={}", part.display());
+            }
+        }
+    }
 }
 
 /// Writes a line to cargo's own standard error, since cargo keeps what a build script writes to its own. Does nothing where it can't.
@@ -105,7 +125,7 @@ fn appends(cargo: &Path) -> Option<bool> {
     Some(flags & O_APPEND != 0)
 }
 
-/// Tells cargo to link a copy of the archive, since `rt ci` removes the folder that `rt` writes to.
+/// Tells cargo to link a copy of the archive, since `rt ci` sets aside the folder that `rt` writes to.
 fn link(archive: &Path) {
     let out = PathBuf::from(env::var_os("OUT_DIR").expect("cargo sets OUT_DIR"));
     // the bytes alone: a copy of a read-only file couldn't be written over by the next build

@@ -3,7 +3,7 @@
 #[path = "common/exports.rs"]
 mod exports;
 
-use exports::{exports, Export};
+use exports::{exports, Export, STRUCT};
 
 const STRUCTS: &str = include_str!("../../../crates/simjaldek_abi/src/lib.rt");
 const DECLARED: &str = include_str!("../src/ffi.rs");
@@ -58,10 +58,10 @@ fn declared() -> Vec<Function> {
     all
 }
 
-/// Each `repr(C)` struct of a text: its name and fields.
-fn structs(mut text: &str) -> Vec<String> {
+/// Each `repr(C)` struct of a text, which begins with `mark`: its name and fields.
+fn structs(mut text: &str, mark: &str) -> Vec<String> {
     let mut all = Vec::new();
-    while let Some((inside, after)) = between(text, "#[repr(C)]\npub struct ", "}") {
+    while let Some((inside, after)) = between(text, mark, "}") {
         all.push(inside);
         text = after;
     }
@@ -76,7 +76,7 @@ fn declared_functions() {
 
 #[test]
 fn declared_structs() {
-    let exported = structs(STRUCTS);
+    let exported = structs(STRUCTS, STRUCT);
     assert_eq!(exported.len(), STRUCTS.matches("#[repr(C)]").count());
-    assert_eq!(exported, structs(DECLARED));
+    assert_eq!(exported, structs(DECLARED, "#[repr(C)]\npub struct "));
 }

@@ -5,7 +5,7 @@
 #[path = "common/exports.rs"]
 mod exports;
 
-use exports::{comment_above, exports};
+use exports::{comment_above, exports, STRUCT};
 use std::env;
 use std::fmt::Write;
 use std::fs;
@@ -97,9 +97,8 @@ fn c_declaration(name: &str, of: &str) -> String {
 
 /// Each struct with the comment above it.
 fn c_structs(text: &mut String) {
-    let mark = "#[repr(C)]\npub struct ";
-    for (place, _) in STRUCTS.match_indices(mark) {
-        let body = STRUCTS[place + mark.len()..].split('}').next();
+    for (place, _) in STRUCTS.match_indices(STRUCT) {
+        let body = STRUCTS[place + STRUCT.len()..].split('}').next();
         let (name, fields) = body.and_then(|body| body.split_once(" {")).expect("fields");
         let comment = comment_above(STRUCTS, place);
         write!(text, "\n/* {comment} */\n{} {{\n", c_type(name)).unwrap();

@@ -2,7 +2,10 @@
 #![allow(dead_code)]
 
 const LIBRARY: &str = include_str!("../../../../crates/simjaldek/src/lib.rt");
-const MARK: &str = "#[no_mangle]\npub extern \"C\" fn ";
+const ATTRIBUTE: &str = "#[unsafe(no_mangle)]";
+const MARK: &str = "#[unsafe(no_mangle)]\npub extern \"C\" fn ";
+/// What stands before the name of a struct that crosses the interface, below its comment.
+pub const STRUCT: &str = "#[repr(C)]\n#[derive(Clone, Copy)]\npub struct ";
 
 /// An exported function.
 pub struct Export {
@@ -20,7 +23,7 @@ pub struct Export {
 pub fn exports() -> Vec<Export> {
     let places = LIBRARY.match_indices(MARK);
     let all: Vec<Export> = places.map(|(place, _)| export(place)).collect();
-    assert_eq!(all.len(), LIBRARY.matches("#[no_mangle]").count());
+    assert_eq!(all.len(), LIBRARY.matches(ATTRIBUTE).count());
     all
 }
 
