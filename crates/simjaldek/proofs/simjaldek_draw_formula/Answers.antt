@@ -1,7 +1,6 @@
 -- `simjaldek_draw_formula` meets its contract: the fields of what the call answers, and its arrays. Assumes nothing.
 use mathlib.Core.Path.{ap}
 use Rattle.simjaldek_abi.specs.Reply.{formula_reply}
-use borrow.Author.Rules.{rules}
 use Rattle.simjaldek.proofs.simjaldek_draw_formula.Goals as goal
 
 pub returns : goal.returns

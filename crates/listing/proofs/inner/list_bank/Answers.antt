@@ -1,5 +1,4 @@
 -- `listing::inner::list_bank` meets its contract: what is printed is what the arrays hold. Assumes nothing.
-use borrow.Author.Rules.{rules}
 use Rattle.listing.proofs.inner.list_bank.Goals as goal
 
 pub print_listing-requires : goal.print_listing-requires

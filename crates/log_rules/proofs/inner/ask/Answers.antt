@@ -3,7 +3,6 @@ use mathlib.Core.Path.{sym, ap, ◌∙◌}
 use borrow.Author.Tests.{lt-ltb, le-ltb}
 use Rattle.rule_run.specs.Window.{Ran}
 use Rattle.log_rules.proofs.Asking.{either_by}
-use borrow.Author.Rules.{rules}
 use Rattle.log_rules.proofs.inner.ask.Goals as goal
 
 pub returns-then-token_count-gt-MAX_TOKENS : goal.returns-then-token_count-gt-MAX_TOKENS

@@ -1,7 +1,6 @@
 -- `log_run::inner::run_many` meets its contract. Assumes nothing.
 use Prim.Native.Nat.{ℕ}
 use lib.ListN.{length-replicate, get_or-replicate}
-use borrow.Author.Rules.{rules}
 use native.Mathlib.Omega.{arith}
 use Rattle.log_run.proofs.inner.run_many.Goals as goal
 

@@ -3,7 +3,6 @@ use mathlib.Core.Path.{refl, ◌∙◌}
 use Rattle.log_rules.specs.Rules.{rules_in}
 use Rattle.log_run.specs.Steps.{open_log}
 use Rattle.log_run.proofs.Stepping.{after_is}
-use borrow.Author.Rules.{rules}
 use native.Mathlib.Omega.{arith}
 use Rattle.log_run.proofs.inner.run_over.Goals as goal
 

@@ -1,7 +1,5 @@
 -- `rule_run::inner::feed_row` meets its contract: one record after the other. Assumes nothing.
-use Rattle.std.proofs.Common.{◌≡◌, ℕ, ◌+◌, ◌-◌, ◌<◌, ◌≤◌, List, length, get_or, refl, ◌∙◌, arith, rules}
-use Rattle.rule_run.specs.Window.{nonzero}
-use Rattle.rule_run.specs.Steps.{Fed}
+use Rattle.std.proofs.Common.{◌+◌, ◌-◌, refl, ◌∙◌, arith}
 use Rattle.rule_run.proofs.Feeding.{fed_at}
 use Rattle.rule_run.proofs.inner.feed_row.Goals as goal
 

@@ -4,7 +4,6 @@ use Rattle.arrays.specs.Parts.{part_at}
 use Rattle.arrays.proofs.Parts.{part_within, part_is, part_part, length-part}
 use Rattle.expr.specs.Formula.{tokens}
 use Rattle.rule_run.specs.Window.{mark_at}
-use Rattle.rule_run.specs.Steps.{Fed}
 use Rattle.rule_run.proofs.Feeding.{fed_at, mark-is}
 use Rattle.rule_run.proofs.inner.run_rows.Goals as goal
 

@@ -1,7 +1,7 @@
 -- `search_product_trial::inner::offer_atoms` meets its contract: a formula of more tokens than the best has size is dearer, and else the costs are compared. Assumes nothing.
 use mathlib.Core.Path.{refl, sym, ap, ap₂, ◌∙◌, subst}
 use mathlib.Core.List.{[]}
-use borrow.Author.Tests.{leb-false, not-true}
+use borrow.Author.Tests.{leb-false}
 use Rattle.row_gates.specs.declared.Gate.TheVariants.{Mul}
 use Rattle.expr_cost.specs.declared.CostInfo.{CostInfo}
 use Rattle.expr_cost.specs.Cost.{info_of, info_gate, Roomy}
@@ -10,7 +10,6 @@ use Rattle.search_product_forms.proofs.Forming.{form_any, written_any, atom_room
 use Rattle.search_product_trial.specs.Trying.{Product}
 use Rattle.search_product_trial.proofs.Keeping.{atoms-sized, atoms-cost, sized_roomy, offered_dear, offered_or}
 use native.Mathlib.Omega.{arith}
-use borrow.Author.Rules.{rules}
 use Rattle.search_product_trial.proofs.inner.offer_atoms.Goals as goal
 
 pub overflow_add-lengths : goal.overflow_add-lengths

@@ -1,6 +1,5 @@
 -- `text_print::inner::print_atoms` meets its contract: costs, then formulas. Assumes nothing.
 use native.Mathlib.Omega.{arith}
-use borrow.Author.Rules.{rules}
 use Rattle.text_print.proofs.Decimals.{then}
 use Rattle.text_print.proofs.inner.print_atoms.Goals as goal
 

@@ -1,6 +1,5 @@
 -- `text_print::inner::print_refusal` meets its contract: the word, and the number after it. Assumes nothing.
 use native.Mathlib.Omega.{arith}
-use borrow.Author.Rules.{rules}
 use Rattle.text_print.specs.Text.{refused_line}
 use Rattle.text_print.proofs.inner.print_refusal.Goals as goal
 

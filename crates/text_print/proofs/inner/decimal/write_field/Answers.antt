@@ -1,6 +1,5 @@
 -- `text_print::inner::decimal::write_field` meets its contract: the digits, and one byte more. Assumes nothing.
 use native.Mathlib.Omega.{arith}
-use borrow.Author.Rules.{rules}
 use Rattle.text_print.proofs.Decimals.{decimal-length, one_more}
 use Rattle.text_print.proofs.inner.decimal.write_field.Goals as goal
 

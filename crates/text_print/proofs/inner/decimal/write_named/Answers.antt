@@ -1,6 +1,5 @@
 -- `text_print::inner::decimal::write_named` meets its contract: the word, and the number after it. Assumes nothing.
 use native.Mathlib.Omega.{arith}
-use borrow.Author.Rules.{rules}
 use Rattle.text_print.proofs.Decimals.{then}
 use Rattle.text_print.proofs.inner.decimal.write_named.Goals as goal
 

@@ -1,10 +1,9 @@
 -- `text_print::inner::formulas::print_formula` meets its contract: the first i tokens are written. Assumes nothing.
-use mathlib.Core.Path.{◌≡◌, ap}
-use Prim.Native.Nat.{ℕ, ◌+◌, ◌-◌, ◌*◌, ◌≤◌}
+use mathlib.Core.Path.{ap}
+use Prim.Native.Nat.{ℕ, ◌-◌}
 use native.Mathlib.Omega.{arith}
 use borrow.Author.Rules.{rules}
-use lib.ListN.{length, length-set}
-use Rattle.text_print.specs.Printing.{Wrote, next_max}
+use lib.ListN.{length-set}
 use Rattle.text_print.specs.Text.{tokens_text, formula_line}
 use Rattle.expr.specs.Formula.{tokens}
 use Rattle.text_print.proofs.Decimals.{then, reads, one_more, nothing}

@@ -1,6 +1,5 @@
 -- `text_print::inner::formulas::print_leaf` meets its contract: a byte, and the digits after it. Assumes nothing.
 use native.Mathlib.Omega.{arith}
-use borrow.Author.Rules.{rules}
 use lib.ListN.{length-set}
 use Rattle.text_print.proofs.Decimals.{decimal-length, one, then, wrote-length}
 use Rattle.text_print.proofs.inner.formulas.print_leaf.Goals as goal

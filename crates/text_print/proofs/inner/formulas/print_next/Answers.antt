@@ -1,6 +1,5 @@
 -- `text_print::inner::formulas::print_next` meets its contract: a blank, unless no token stands before. Assumes nothing.
 use native.Mathlib.Omega.{arith}
-use borrow.Author.Rules.{rules}
 use lib.ListN.{length-set}
 use Rattle.text_print.proofs.Decimals.{one, then, reads, wrote-length}
 use Rattle.text_print.proofs.Listings.{next-later}

@@ -1,6 +1,5 @@
 -- `text_print::inner::formulas::print_signless` meets its contract, token by token: no gate, `!` or `-` comes here. Assumes nothing.
 use native.Mathlib.Omega.{arith}
-use borrow.Author.Rules.{rules}
 use Rattle.text_print.specs.Text.{token_text}
 use Rattle.text_print.proofs.Decimals.{nothing}
 use Rattle.text_print.proofs.Listings.{gate_signed, not_signed, neg_signed}

@@ -1,6 +1,5 @@
 -- `text_print::inner::lines::print_head` meets its contract: the two counts by their words, and the mark. Assumes nothing.
 use native.Mathlib.Omega.{arith}
-use borrow.Author.Rules.{rules}
 use Rattle.text_print.specs.Text.{head_line}
 use Rattle.text_print.proofs.Decimals.{then}
 use Rattle.text_print.proofs.inner.lines.print_head.Goals as goal

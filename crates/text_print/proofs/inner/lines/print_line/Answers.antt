@@ -1,7 +1,6 @@
 -- `text_print::inner::lines::print_line` meets its contract: three fields, one after the other. Assumes nothing.
 use Prim.Native.Nat.{◌+◌, ◌*◌}
 use native.Mathlib.Omega.{arith}
-use borrow.Author.Rules.{rules}
 use Rattle.text_print.proofs.Decimals.{then, reads}
 use Rattle.text_print.proofs.Listings.{numbers_at_lem}
 use Rattle.text_print.proofs.inner.lines.print_line.Goals as goal

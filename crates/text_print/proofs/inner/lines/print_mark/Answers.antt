@@ -1,6 +1,5 @@
 -- `text_print::inner::lines::print_mark` meets its contract, by the mark. Assumes nothing.
 use native.Mathlib.Omega.{arith}
-use borrow.Author.Rules.{rules}
 use Rattle.text_print.proofs.inner.lines.print_mark.Goals as goal
 
 pub returns-then-cut : goal.returns-then-cut
