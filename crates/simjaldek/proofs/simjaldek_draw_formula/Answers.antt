@@ -5,7 +5,7 @@ use Rattle.simjaldek.proofs.simjaldek_draw_formula.Goals as goal
 
 pub returns : goal.returns
 returns c = record {
-      value = ap formula_reply c.draw_formula-x.ensures.value;
-      ops_after = c.draw_formula-x.ensures.ops_after;
-      operands_after = c.draw_formula-x.ensures.operands_after;
-    }
+  value = ap formula_reply c.draw_formula-x.ensures.value;
+  ops_after = c.draw_formula-x.ensures.ops_after;
+  operands_after = c.draw_formula-x.ensures.operands_after;
+}

@@ -5,6 +5,6 @@ use Rattle.simjaldek.proofs.simjaldek_run_rule.Goals as goal
 
 pub returns : goal.returns
 returns c = record {
-      value = ap rule_reply c.run_rule-x.ensures.value;
-      answers_after = c.run_rule-x.ensures.answers_after;
-    }
+  value = ap rule_reply c.run_rule-x.ensures.value;
+  answers_after = c.run_rule-x.ensures.answers_after;
+}

@@ -6,6 +6,6 @@ print_listing-requires c = (c.build_both-built.ensures.shown, c.requires.1)
 
 pub returns : goal.returns
 returns c = record {
-      wrote = c.print_listing.ensures.is _ _ c.build_both-built.ensures.holding;
-      upper_bound = c.print_listing.ensures.fits;
-    }
+  wrote = c.print_listing.ensures.is _ _ c.build_both-built.ensures.holding;
+  upper_bound = c.print_listing.ensures.fits;
+}

@@ -4,6 +4,6 @@ use Rattle.listing.proofs.inner.list_numbers.Goals as goal
 
 pub returns : goal.returns
 returns c = record {
-      wrote = text-is c.args.numbers _ _ c.points_of-points.ensures c.target_of-target.ensures c.list_bank.ensures.wrote;
-      upper_bound = c.list_bank.ensures.upper_bound;
-    }
+  wrote = text-is c.args.numbers _ _ c.points_of-points.ensures c.target_of-target.ensures c.list_bank.ensures.wrote;
+  upper_bound = c.list_bank.ensures.upper_bound;
+}

@@ -16,12 +16,11 @@ pub write_line-x-requires : goal.write_line-x-requires
 write_line-x-requires c = let l = c.loop-p in (omega (arith, l.invariant.0, l.invariant.2.long), l.invariant.2.ready)
 
 pub loop-p-preserved : goal.loop-p-preserved
-loop-p-preserved c = let l = c.loop-p in let a = c.args in
-    (
-      l.invariant.0,
-      search rules,
-      going_next a.load a.out.now l.out l.ops l.operands l.state l.left l.p l.invariant.2 _ _ _ _ c.write_line-x.result.next (omega (arith, l.invariant.0)) (omega (arith, c.if-left-eq0.false)) c.write_line-x.ensures.wrote c.write_line-x.ensures.next_bound.0 c.write_line-x.ensures.next_bound.1 (search rules),
-    )
+loop-p-preserved c = let l = c.loop-p in let a = c.args in (
+  l.invariant.0,
+  search rules,
+  going_next a.load a.out.now l.out l.ops l.operands l.state l.left l.p l.invariant.2 _ _ _ _ c.write_line-x.result.next (omega (arith, l.invariant.0)) (omega (arith, c.if-left-eq0.false)) c.write_line-x.ensures.wrote c.write_line-x.ensures.next_bound.0 c.write_line-x.ensures.next_bound.1 (search rules),
+)
 
 pub returns : goal.returns
 returns c = let l = c.loop-p in let a = c.args in

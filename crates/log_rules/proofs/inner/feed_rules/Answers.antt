@@ -60,8 +60,7 @@ overflow_add-i c = omega (arith, c.requires.lends.1.0.few, c.loop-i-test.true)
 pub loop-i-preserved : goal.loop-i-preserved
 loop-i-preserved c = let a = c.args in
     let l = c.loop-i in
-    let h = c.loop-i-test.true in
-    (
+    let h = c.loop-i-test.true in (
       omega (arith, h),
       (
         omega (arith, c.ask_at-x.auto.answers, l.invariant.1.0),

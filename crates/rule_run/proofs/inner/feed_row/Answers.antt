@@ -12,8 +12,7 @@ feed-bits-requires c = (omega (arith, c.requires.0, c.loop-j.invariant.1.0), c.r
 
 pub loop-j-preserved : goal.loop-j-preserved
 loop-j-preserved c =
-    let l = c.loop-j in
-    (
+    let l = c.loop-j in (
       omega arith,
       (
         c.feed-bits.auto.answers ∙ l.invariant.1.0,

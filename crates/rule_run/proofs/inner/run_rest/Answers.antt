@@ -61,8 +61,7 @@ feed-bits-requires c = (omega (arith, c.requires.1.1, c.loop-k.invariant.1.0), (
 pub loop-k-preserved : goal.loop-k-preserved
 loop-k-preserved c =
     let a = c.args in
-    let l = c.loop-k in
-    (
+    let l = c.loop-k in (
       omega arith,
       (
         c.feed-bits.auto.answers ∙ l.invariant.1.0,

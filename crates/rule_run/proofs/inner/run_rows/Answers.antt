@@ -78,8 +78,7 @@ feed_row-bits-requires c = (omega (arith, c.requires.1, c.loop-k.invariant.1.1.0
 pub loop-k-preserved : goal.loop-k-preserved
 loop-k-preserved c =
     let a = c.args in
-    let l = c.loop-k in
-    (
+    let l = c.loop-k in (
       omega arith,
       (
         c.eval_row-row.auto.stack ∙ l.invariant.1.0,

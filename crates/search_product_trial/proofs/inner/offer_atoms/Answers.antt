@@ -29,11 +29,10 @@ returns-then-not-may_beat c pairs =
     (leb-false _ _ (sym c.may_beat.ensures ∙ c.if-not-may_beat.true))
 
 pub or_product-requires : goal.or_product-requires
-or_product-requires c =
-    (
-      subst (λ (x : CostInfo). Roomy x.cost) (sym c.atom_info-left.ensures) (atom_roomy c.requires.0 _ c.requires.1),
-      subst (λ (x : CostInfo). Roomy x.cost) (sym c.atom_info-right.ensures) (atom_roomy c.requires.0 _ c.requires.2),
-    )
+or_product-requires c = (
+  subst (λ (x : CostInfo). Roomy x.cost) (sym c.atom_info-left.ensures) (atom_roomy c.requires.0 _ c.requires.1),
+  subst (λ (x : CostInfo). Roomy x.cost) (sym c.atom_info-right.ensures) (atom_roomy c.requires.0 _ c.requires.2),
+)
 
 pub returns : goal.returns
 returns c pairs =

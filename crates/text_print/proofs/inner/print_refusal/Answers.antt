@@ -6,6 +6,6 @@ use Rattle.text_print.proofs.inner.print_refusal.Goals as goal
 pub returns : goal.returns
 unfolding refused_line
 returns c = record {
-      wrote = c.write_named.ensures.wrote;
-      upper_bound = omega (arith, c.write_named.ensures.upper_bound);
-    }
+  wrote = c.write_named.ensures.wrote;
+  upper_bound = omega (arith, c.write_named.ensures.upper_bound);
+}

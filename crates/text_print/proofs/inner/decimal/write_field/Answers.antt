@@ -11,6 +11,6 @@ overflow_add-result c = omega (arith, c.write_decimal-p.ensures.next, decimal-le
 
 pub returns : goal.returns
 returns c = record {
-      wrote = one_more _ c.write_decimal-p.ensures;
-      upper_bound = omega (arith, c.write_decimal-p.ensures.next, decimal-length c.args.x);
-    }
+  wrote = one_more _ c.write_decimal-p.ensures;
+  upper_bound = omega (arith, c.write_decimal-p.ensures.next, decimal-length c.args.x);
+}

@@ -5,6 +5,6 @@ use Rattle.text_print.proofs.inner.decimal.write_named.Goals as goal
 
 pub returns : goal.returns
 returns c = record {
-      wrote = then c.put-p.ensures c.write_field.ensures.wrote;
-      upper_bound = omega (arith, c.put-p.ensures.next);
-    }
+  wrote = then c.put-p.ensures c.write_field.ensures.wrote;
+  upper_bound = omega (arith, c.put-p.ensures.next);
+}

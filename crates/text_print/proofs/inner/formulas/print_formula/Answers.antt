@@ -28,6 +28,6 @@ shape_of-out c = simp length-set (omega arith)
 pub returns : goal.returns
 unfolding formula_line
 returns c = let a = c.args in record {
-      wrote = reads (ap (λ (k : ℕ). formula_line (tokens k a.ops.now a.operands.now)) (omega arith)) (one_more _ c.loop-i.invariant.3);
-      upper_bound = omega arith;
-    }
+  wrote = reads (ap (λ (k : ℕ). formula_line (tokens k a.ops.now a.operands.now)) (omega arith)) (one_more _ c.loop-i.invariant.3);
+  upper_bound = omega arith;
+}

@@ -28,6 +28,6 @@ loop-k-preserved c = let a = c.args in
 
 pub returns : goal.returns
 returns c = record {
-      wrote = reads (ap (lines_text (formula_at c.args.lengths.now c.args.ops.now c.args.operands.now)) (omega arith)) c.loop-k.invariant.3;
-      upper_bound = search rules;
-    }
+  wrote = reads (ap (lines_text (formula_at c.args.lengths.now c.args.ops.now c.args.operands.now)) (omega arith)) c.loop-k.invariant.3;
+  upper_bound = search rules;
+}

@@ -12,6 +12,6 @@ shape_of-out c = let a = c.args in wrote-length {l = a.out.now} (then (one a.let
 
 pub returns : goal.returns
 returns c = record {
-      wrote = then (one _) c.write_decimal.ensures;
-      upper_bound = omega (arith, c.write_decimal.ensures.next, decimal-length c.args.x);
-    }
+  wrote = then (one _) c.write_decimal.ensures;
+  upper_bound = omega (arith, c.write_decimal.ensures.next, decimal-length c.args.x);
+}

@@ -16,6 +16,6 @@ overflow_cast-z c = omega (arith, c.type_inv.numbers (3 * c.args.k + 2))
 
 pub returns : goal.returns
 returns c = record {
-      wrote = reads (numbers_at_lem c.args.numbers.now c.args.k) (then c.write_field-p.ensures.wrote (then c.write_field-q.ensures.wrote c.write_field.ensures.wrote));
-      upper_bound = omega (arith, c.write_field-p.ensures.upper_bound, c.write_field-q.ensures.upper_bound, c.write_field.ensures.upper_bound);
-    }
+  wrote = reads (numbers_at_lem c.args.numbers.now c.args.k) (then c.write_field-p.ensures.wrote (then c.write_field-q.ensures.wrote c.write_field.ensures.wrote));
+  upper_bound = omega (arith, c.write_field-p.ensures.upper_bound, c.write_field-q.ensures.upper_bound, c.write_field.ensures.upper_bound);
+}

@@ -16,6 +16,6 @@ loop-k-preserved c = (search rules, search rules, search rules, line-more _ _ c.
 
 pub returns : goal.returns
 returns c = record {
-      wrote = reads (ap (lines_text (numbers_at c.args.numbers.now)) (omega arith)) c.loop-k.invariant.3;
-      upper_bound = search rules;
-    }
+  wrote = reads (ap (lines_text (numbers_at c.args.numbers.now)) (omega arith)) c.loop-k.invariant.3;
+  upper_bound = search rules;
+}
