@@ -1,5 +1,5 @@
 -- Laws of single bits: their range, and those of a union and of a power of two. Assumes nothing.
-use Rattle.std.proofs.Common.{◌≡◌, ℕ, zero, suc, ◌+◌, ◌*◌, ◌/◌, ◌%◌, ◌^◌, ◌<◌, ◌≤◌, max, sym, refl, ap, ◌∙◌, mod-lt, mod-eq_of_lt, pow-suc, div-one, arith, pow_pos}
+use Rattle.std.proofs.Common.{◌≡◌, ℕ, zero, suc, ◌*◌, ◌/◌, ◌%◌, ◌^◌, ◌<◌, ◌≤◌, max, refl, ap, ◌∙◌, mod-lt, mod-eq_of_lt, pow-suc, div-one, arith, pow_pos}
 use native.Mathlib.Nat.{div-eq_of_lt, mul-add-mod_self_right, mul-div-mul_right}
 use lib.Bits.{bit_or, or_step, or_shr}
 use lib.Pow.{pow-lt}

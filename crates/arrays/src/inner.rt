@@ -1,4 +1,4 @@
-// Copies between slices of one length, for the crates above. These stand once for each type of element: the language has no generics.
+// Copies between slices of one length, for the crates above: of words, and of bytes.
 ghost use Rattle.std.specs.Prelude.{◌≡◌, length};
 
 // Copies all of `from`.

@@ -1,5 +1,5 @@
-// The reader of formulas. The borrow checker covers no function over a struct that holds slices: each is thin and proved by hand. The work
-// is left to `step`, over plain slices, which is covered; every other caller goes through `token_at`.
+// The reader of formulas: a few thin functions over a struct that holds the slices. The work is left to `step`, over plain slices; every other
+// caller goes through `token_at`.
 ghost use Rattle.std.specs.Prelude.{◌≡◌};
 ghost use Rattle.expr.specs.Formula.{token_at};
 

@@ -1,5 +1,5 @@
 -- `arith::bitmask` meets its contract: below 64 the shift loses nothing. Assumes nothing.
-use Rattle.std.proofs.Common.{◌≡◌, ℕ, ◌-◌, ◌^◌, ◌≤◌, min, sym, ap, ◌∙◌, subst, arith, pow_pos, rules}
+use Rattle.std.proofs.Common.{◌≡◌, ℕ, ◌-◌, ◌^◌, ◌≤◌, min, sym, ap, ◌∙◌, subst, arith, pow_pos}
 use Rattle.arith.proofs.Remainders.{shl_one}
 use Rattle.arith.proofs.bitmask.Goals as goal
 

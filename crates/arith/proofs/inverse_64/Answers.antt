@@ -1,5 +1,5 @@
 -- `arith::inverse_64` meets its contract: m is right in 3 bits, and the five steps make it 6, 12, 24, 48 and 64. Assumes nothing.
-use Rattle.std.proofs.Common.{arith, rules}
+use Rattle.std.proofs.Common.{arith}
 use Rattle.arith.proofs.Congruence.{cong_less}
 use Rattle.arith.proofs.Newton.{odd_start}
 use Rattle.arith.proofs.inverse_64.Goals as goal

@@ -1,5 +1,5 @@
 -- `arith::mod_add` meets its contract: what wraps at 64 bits and is then reduced is reduced. Assumes nothing.
-use Rattle.std.proofs.Common.{ℕ, ◌+◌, ◌%◌, ap, ◌∙◌, rules}
+use Rattle.std.proofs.Common.{ℕ, ◌+◌, ◌%◌, ap, ◌∙◌}
 use Rattle.arith.specs.Word.{modulus}
 use Rattle.arith.proofs.Remainders.{wrap_reduce}
 use Rattle.arith.proofs.mod_add.Goals as goal

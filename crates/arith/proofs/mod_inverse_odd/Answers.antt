@@ -1,5 +1,5 @@
 -- `arith::mod_inverse_odd` meets its contract: an inverse at 64 bits, reduced, is one at k. Assumes nothing.
-use Rattle.std.proofs.Common.{ℕ, ◌<◌, min, sym, refl, subst, mod-lt, arith, pow_pos, rules}
+use Rattle.std.proofs.Common.{ℕ, ◌<◌, min, sym, refl, subst, mod-lt, arith, pow_pos}
 use Rattle.arith.specs.Word.{modulus}
 use Rattle.arith.proofs.Remainders.{width_le}
 use Rattle.arith.proofs.Congruence.{cong_trans, cong_mul, cong_refl, cong_eq, cong_mod, cong_less}

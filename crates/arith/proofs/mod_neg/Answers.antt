@@ -1,5 +1,5 @@
 -- `arith::mod_neg` meets its contract: it is a difference from 0. Assumes nothing.
-use Rattle.std.proofs.Common.{ℕ, ◌-◌, ◌%◌, ap, ◌∙◌, zero-add, rules}
+use Rattle.std.proofs.Common.{ℕ, ◌-◌, ◌%◌, ap, ◌∙◌, zero-add}
 use Rattle.arith.specs.Word.{modulus}
 use Rattle.arith.proofs.mod_neg.Goals as goal
 

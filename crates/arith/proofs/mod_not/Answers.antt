@@ -1,5 +1,5 @@
 -- `arith::mod_not` meets its contract: a masked word is at most the mask. Assumes nothing.
-use Rattle.std.proofs.Common.{ℕ, ◌-◌, min, ap, ◌∙◌, rules}
+use Rattle.std.proofs.Common.{ℕ, ◌-◌, min, ap, ◌∙◌}
 use lib.Bits.{bit_and, and_le_r, and_mask}
 use Rattle.arith.specs.Word.{modulus}
 use Rattle.arith.proofs.mod_not.Goals as goal

@@ -1,5 +1,5 @@
 -- `arith::mod_sub` meets its contract: b added to the result gives a, at 64 bits and so at w. Assumes nothing.
-use Rattle.std.proofs.Common.{ℕ, ◌+◌, ◌%◌, min, sym, ap, ◌∙◌, pow_pos, rules}
+use Rattle.std.proofs.Common.{ℕ, ◌+◌, ◌%◌, min, sym, ap, ◌∙◌, pow_pos}
 use Rattle.arith.specs.Word.{modulus}
 use Rattle.arith.specs.Cong.{Cong}
 use Rattle.arith.proofs.Remainders.{wrap_reduce}

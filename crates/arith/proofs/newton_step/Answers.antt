@@ -1,5 +1,5 @@
 -- `arith::newton_step` meets its contract: the second factor and m × x sum to 2, so `newton_doubles` applies. Assumes nothing.
-use Rattle.std.proofs.Common.{ℕ, ◌+◌, ◌*◌, ◌%◌, ◌^◌, sym, ap, ◌∙◌, rules}
+use Rattle.std.proofs.Common.{ℕ, ◌+◌, ◌*◌, ◌%◌, ◌^◌, sym, ap, ◌∙◌}
 use native.Mathlib.Nat.{add-mod-mod}
 use Rattle.arith.specs.Cong.{Cong}
 use Rattle.arith.proofs.Congruence.{cong_trans, cong_mul, cong_refl, cong_eq, cong_mod, cong_less}

@@ -1,5 +1,5 @@
 -- `arith::reduce` meets its contract: a mask takes the remainder. Assumes nothing.
-use Rattle.std.proofs.Common.{ℕ, min, ap, ◌∙◌, rules}
+use Rattle.std.proofs.Common.{ℕ, min, ap, ◌∙◌}
 use lib.Bits.{bit_and, and_mask}
 use Rattle.arith.proofs.reduce.Goals as goal
 

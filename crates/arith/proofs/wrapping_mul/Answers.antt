@@ -1,5 +1,5 @@
 -- `arith::wrapping_mul` meets its contract: the halves' products are the digits of the product (`halves` of proofs/Remainders). Assumes nothing.
-use Rattle.std.proofs.Common.{ℕ, ◌+◌, ◌*◌, ◌/◌, ◌%◌, ◌^◌, ap, ◌∙◌, shr_lt, rules}
+use Rattle.std.proofs.Common.{ℕ, ◌+◌, ◌*◌, ◌/◌, ◌%◌, ◌^◌, ap, ◌∙◌, shr_lt}
 use lib.Bits.{bit_and, and_mask, mask_lt}
 use Rattle.arith.proofs.Remainders.{halves_lt, halves}
 use Rattle.arith.proofs.wrapping_mul.Goals as goal

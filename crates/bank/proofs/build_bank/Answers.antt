@@ -1,7 +1,6 @@
 -- `bank::build_bank` meets its contract: a refusal leaves all as it was; else the tests that passed are what the build asks for. Assumes nothing.
 use mathlib.Core.Path.{sym, ◌∙◌}
 use native.Mathlib.Omega.{arith}
-use borrow.Author.Rules.{rules}
 use Rattle.bank_parts.specs.Parts.{arrays}
 use Rattle.bank.proofs.Answering.{build-asked, build-fits, built-few, built-refused, built-built}
 use Rattle.bank.proofs.build_bank.Goals as goal

@@ -1,7 +1,6 @@
 -- `bank_lookup::find_row` meets its contract: the refusals in the table's order, then the least slot. Assumes nothing.
 use mathlib.Core.Path.{refl, sym, ap, ◌∙◌}
 use Prim.Native.Nat.{ℕ}
-use borrow.Author.Rules.{rules}
 use borrow.Author.Tests.{lt-ltb, le-ltb}
 use Rattle.limits.specs.Refusal.{outcome}
 use Rattle.limits.proofs.Refusals.{refused_here, refused-later, within}

@@ -1,11 +1,7 @@
 -- `bank_lookup::least_slot` meets its contract: the slots passed have other rows. Assumes nothing.
-use mathlib.Core.Path.{◌≡◌, sym, ap, ◌∙◌}
-use Prim.Native.Nat.{ℕ, ◌-◌, ◌≤◌}
-use native.Mathlib.Omega.{arith}
-use borrow.Author.Rules.{rules}
-use Rattle.limits.specs.Refusal.{answer}
+use mathlib.Core.Path.{◌≡◌}
+use Prim.Native.Nat.{◌-◌, ◌≤◌}
 use Rattle.bank_lookup.specs.Lookup.{least_from}
-use Rattle.bank_lookup.proofs.Least.{least_here, least-later, least-none}
 use Rattle.bank_lookup.proofs.least_slot.Given as goal
 
 abbrev pub invariant-loop-s : goal.invariant-loop-s

@@ -1,6 +1,5 @@
 -- `compare_candidates::list_is` is safe: the place stays in the line, and at or above `base`. Assumes nothing.
 use Prim.Native.Nat.{◌-◌, ◌≤◌}
-use borrow.Author.Rules.{rules}
 use lib.ListN.{length}
 use Rattle.compare_candidates.proofs.list_is.Given as goal
 

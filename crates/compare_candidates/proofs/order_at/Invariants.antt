@@ -1,7 +1,6 @@
 -- `compare_candidates::order_at` is safe: the place stays below n, which is at most 200. Assumes nothing.
 use mathlib.Core.Path.{◌≡◌}
 use Prim.Native.Nat.{◌-◌, ◌≤◌}
-use borrow.Author.Rules.{rules}
 use lib.ListN.{length}
 use Rattle.compare_candidates.proofs.order_at.Given as goal
 

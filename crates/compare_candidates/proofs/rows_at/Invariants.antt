@@ -1,7 +1,6 @@
 -- `compare_candidates::rows_at` is safe: the row stays below n, which is at most 200. Assumes nothing.
 use mathlib.Core.Path.{◌≡◌}
 use Prim.Native.Nat.{◌-◌, ◌≤◌}
-use borrow.Author.Rules.{rules}
 use lib.ListN.{length}
 use Rattle.compare_candidates.proofs.rows_at.Given as goal
 

@@ -1,9 +1,7 @@
 -- `compare_formulas::read_tokens` is safe: each token takes at most two numbers. Assumes nothing.
-use mathlib.Core.Path.{◌≡◌}
-use Prim.Native.Nat.{◌+◌, ◌-◌, ◌*◌, ◌≤◌}
+use Prim.Native.Nat.{◌-◌}
 use native.Mathlib.Omega.{arith}
-use borrow.Author.Rules.{rules}
-use lib.ListN.{length, length-set}
+use lib.ListN.{length-set}
 use Rattle.compare_formulas.proofs.read_tokens.Goals as goal
 
 pub loop-i-preserved : goal.loop-i-preserved

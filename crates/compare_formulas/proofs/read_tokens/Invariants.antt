@@ -1,9 +1,7 @@
 -- `compare_formulas::read_tokens` is safe: each token takes at most two numbers. Assumes nothing.
 use mathlib.Core.Path.{◌≡◌}
 use Prim.Native.Nat.{◌+◌, ◌-◌, ◌*◌, ◌≤◌}
-use native.Mathlib.Omega.{arith}
-use borrow.Author.Rules.{rules}
-use lib.ListN.{length, length-set}
+use lib.ListN.{length}
 use Rattle.compare_formulas.proofs.read_tokens.Given as goal
 
 abbrev pub invariant-loop-i : goal.invariant-loop-i

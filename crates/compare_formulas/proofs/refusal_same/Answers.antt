@@ -1,7 +1,6 @@
 -- `compare_formulas::refusal_same` is safe: the arrays' lengths are at most 80, and they lie in the line. Assumes nothing.
 use mathlib.Core.Path.{sym}
 use native.Mathlib.Omega.{arith}
-use borrow.Author.Rules.{rules}
 use lib.ListN.{get_or}
 use lib.Seq.{length-take-le}
 use Rattle.compare_formulas.proofs.refusal_same.Goals as goal

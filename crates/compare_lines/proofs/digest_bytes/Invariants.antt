@@ -1,6 +1,5 @@
 -- `compare_lines::digest_bytes` is safe: the place stays below n. Assumes nothing.
 use Prim.Native.Nat.{◌-◌, ◌≤◌}
-use borrow.Author.Rules.{rules}
 use Rattle.compare_lines.proofs.digest_bytes.Given as goal
 
 abbrev pub invariant-loop-i : goal.invariant-loop-i

@@ -1,6 +1,5 @@
 -- `compare_lines::digest_words` is safe: the place stays below n. Assumes nothing.
 use Prim.Native.Nat.{◌-◌, ◌≤◌}
-use borrow.Author.Rules.{rules}
 use Rattle.compare_lines.proofs.digest_words.Given as goal
 
 abbrev pub invariant-loop-i : goal.invariant-loop-i

@@ -1,6 +1,5 @@
 -- `compare_lines::words_kept` is safe: the place stays in the slice. Assumes nothing.
 use Prim.Native.Nat.{◌-◌}
-use borrow.Author.Rules.{rules}
 use lib.ListN.{length}
 use Rattle.compare_lines.proofs.words_kept.Given as goal
 

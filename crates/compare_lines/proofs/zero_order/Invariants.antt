@@ -1,7 +1,6 @@
 -- `compare_lines::zero_order` is safe: the place stays below 8,000. Assumes nothing.
 use mathlib.Core.Path.{◌≡◌}
 use Prim.Native.Nat.{◌-◌, ◌≤◌}
-use borrow.Author.Rules.{rules}
 use lib.ListN.{length}
 use Rattle.compare_lines.proofs.zero_order.Given as goal
 

@@ -1,6 +1,5 @@
 -- `compare_loads::bytes_are` is safe: the place stays in the slice. Assumes nothing.
 use Prim.Native.Nat.{◌-◌}
-use borrow.Author.Rules.{rules}
 use lib.ListN.{length}
 use Rattle.compare_loads.proofs.bytes_are.Given as goal
 

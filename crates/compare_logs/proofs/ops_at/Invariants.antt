@@ -1,7 +1,6 @@
 -- `compare_logs::ops_at` is safe: the place stays below 640. Assumes nothing.
 use mathlib.Core.Path.{◌≡◌}
 use Prim.Native.Nat.{◌-◌, ◌≤◌}
-use borrow.Author.Rules.{rules}
 use lib.ListN.{length}
 use Rattle.compare_logs.proofs.ops_at.Given as goal
 

@@ -2,7 +2,6 @@
 use Prim.Native.Nat.{◌%◌, ◌<◌}
 use native.Mathlib.Nat.{mod-lt}
 use native.Mathlib.Omega.{arith}
-use borrow.Author.Rules.{rules}
 use Rattle.compare_logs.proofs.record_word.Goals as goal
 
 pub overflow_add-base : goal.overflow_add-base

@@ -1,5 +1,4 @@
 -- `compare_logs::run_over_parts` is safe: the line has 43 numbers at least. Assumes nothing.
-use borrow.Author.Rules.{rules}
 use native.Mathlib.Omega.{arith}
 use Rattle.compare_logs.proofs.run_over_parts.Goals as goal
 

@@ -1,7 +1,6 @@
 -- `compare_logs::values_at` is safe: the place stays below 10. Assumes nothing.
 use mathlib.Core.Path.{◌≡◌}
 use Prim.Native.Nat.{◌-◌, ◌≤◌}
-use borrow.Author.Rules.{rules}
 use lib.ListN.{length}
 use Rattle.compare_logs.proofs.values_at.Given as goal
 

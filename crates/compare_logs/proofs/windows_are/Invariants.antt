@@ -1,6 +1,5 @@
 -- `compare_logs::windows_are` is safe: the place stays below 8. Assumes nothing.
 use Prim.Native.Nat.{◌-◌, ◌≤◌}
-use borrow.Author.Rules.{rules}
 use Rattle.compare_logs.proofs.windows_are.Given as goal
 
 abbrev pub invariant-loop-i : goal.invariant-loop-i

@@ -1,8 +1,7 @@
 -- `compare_products::zero_formulas` ends: the slice keeps its length. Assumes nothing.
-use mathlib.Core.Path.{◌≡◌, refl, ◌∙◌}
+use mathlib.Core.Path.{refl, ◌∙◌}
 use Prim.Native.Nat.{◌-◌}
-use lib.ListN.{length, length-set}
-use borrow.Author.Rules.{rules}
+use lib.ListN.{length-set}
 use Rattle.compare_products.proofs.zero_formulas.Goals as goal
 
 pub loop-at-init : goal.loop-at-init

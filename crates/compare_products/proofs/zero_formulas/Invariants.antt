@@ -1,8 +1,7 @@
 -- `compare_products::zero_formulas` ends: the slice keeps its length. Assumes nothing.
-use mathlib.Core.Path.{◌≡◌, refl, ◌∙◌}
+use mathlib.Core.Path.{◌≡◌}
 use Prim.Native.Nat.{◌-◌}
-use lib.ListN.{length, length-set}
-use borrow.Author.Rules.{rules}
+use lib.ListN.{length}
 use Rattle.compare_products.proofs.zero_formulas.Given as goal
 
 abbrev pub invariant-loop-at : goal.invariant-loop-at

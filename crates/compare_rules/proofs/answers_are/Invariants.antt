@@ -1,6 +1,5 @@
 -- `compare_rules::answers_are` is safe: the place stays in the slice. Assumes nothing.
 use Prim.Native.Nat.{◌-◌}
-use borrow.Author.Rules.{rules}
 use lib.ListN.{length}
 use Rattle.compare_rules.proofs.answers_are.Given as goal
 

@@ -1,7 +1,6 @@
 -- `compare_rules::put_opcodes` is safe: the place stays in the slice, whose length stays. Assumes nothing.
 use mathlib.Core.Path.{◌≡◌}
 use Prim.Native.Nat.{◌-◌}
-use borrow.Author.Rules.{rules}
 use lib.ListN.{length}
 use Rattle.compare_rules.proofs.put_opcodes.Given as goal
 

@@ -1,6 +1,5 @@
 -- `compare_words::points_same` is safe: the point stays below 16. Assumes nothing.
 use Prim.Native.Nat.{◌-◌, ◌≤◌}
-use borrow.Author.Rules.{rules}
 use Rattle.compare_words.proofs.points_same.Given as goal
 
 abbrev pub invariant-loop-k : goal.invariant-loop-k

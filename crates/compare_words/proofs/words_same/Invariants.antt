@@ -1,6 +1,5 @@
 -- `compare_words::words_same` is safe: the words lie in the line from `base` on. Assumes nothing.
 use Prim.Native.Nat.{◌-◌, ◌≤◌}
-use borrow.Author.Rules.{rules}
 use lib.ListN.{length}
 use Rattle.compare_words.proofs.words_same.Given as goal
 

@@ -2,7 +2,6 @@
 use mathlib.Core.Path.{sym, ◌∙◌, subst}
 use Prim.Native.Nat.{ℕ, ◌-◌, ◌+◌, ◌≤◌, ◌<◌}
 use borrow.Author.Rules.{rules}
-use borrow.Author.Tests.{not-true, not-false}
 use Rattle.expr.proofs.Testing.{Testing, test-few, test-many, test-start, test_end, test_unknown, test_low, test-next}
 use Rattle.expr.proofs.is_formula.Goals as goal
 

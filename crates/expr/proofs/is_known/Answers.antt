@@ -1,6 +1,5 @@
 -- `expr::is_known` meets its contract, token by token. Assumes nothing.
 use Rattle.expr.specs.Formula.{known}
-use borrow.Author.Rules.{rules}
 use Rattle.expr.proofs.is_known.Goals as goal
 
 pub returns-in-Constant : goal.returns-in-Constant

@@ -1,6 +1,5 @@
 -- `expr::takes` meets its contract, token by token. Assumes nothing.
 use Rattle.expr.specs.Formula.{arity}
-use borrow.Author.Rules.{rules}
 use Rattle.expr.proofs.takes.Goals as goal
 
 pub returns-in-Constant : goal.returns-in-Constant

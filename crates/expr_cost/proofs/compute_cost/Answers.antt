@@ -1,7 +1,6 @@
 -- `expr_cost::compute_cost` meets its contract: each refusal is tested as the definition tests it, and what passes ends before its count and begins at 0. Assumes nothing.
 use mathlib.Core.Path.{sym, ap, ◌∙◌}
 use mathlib.Core.Bool.{not}
-use borrow.Author.Rules.{rules}
 use Rattle.limits.specs.Refusal.{refuse}
 use Rattle.expr.specs.Formula.{tokens}
 use Rattle.expr.specs.Answers.{too_short, not_formula}

@@ -1,7 +1,6 @@
 -- `expr_eval::eval` meets its contract: each refusal is tested as the definition tests it, and what is left meets what the evaluator asks. Assumes nothing.
 use mathlib.Core.Path.{sym, ◌∙◌}
 use mathlib.Core.Bool.{not, ◌||◌}
-use borrow.Author.Rules.{rules}
 use borrow.Author.Tests.{lt-ltb, le-ltb}
 use lib.Dec.{ltb}
 use lib.ListN.{length}

@@ -1,7 +1,6 @@
 -- `index::build_index` meets its contract: refused as the table says, or built in arrays that are long enough. Assumes nothing.
-use mathlib.Core.Path.{◌≡◌, sym, ◌∙◌}
+use mathlib.Core.Path.{◌≡◌}
 use native.Mathlib.Omega.{arith}
-use borrow.Author.Rules.{rules}
 use lib.ListN.{length}
 use Rattle.index.specs.Build.{arrays_of}
 use Rattle.index.proofs.Passing.{none-refused}

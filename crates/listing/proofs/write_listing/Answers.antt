@@ -1,7 +1,6 @@
 -- `listing::write_listing` meets its contract: what the end of the reading says chooses the text. Assumes nothing.
 use mathlib.Core.Path.{refl, sym, ◌∙◌}
 use native.Mathlib.Omega.{arith}
-use borrow.Author.Rules.{rules}
 use borrow.Author.Tests.{not-true, not-false}
 use Rattle.listing.proofs.Refusing.{none-refused}
 use Rattle.listing.proofs.Keeping.{listing_nine, given-refused, given-text, laid}

@@ -4,7 +4,6 @@ use Rattle.expr.specs.Formula.{opcode_of, operand_of}
 use Rattle.load_draw.specs.Draw.{formula_from}
 use Rattle.load_draw.proofs.Drawing.{turned, turned_array, answered, answered_array}
 use Rattle.load_draw.proofs.Refusing.{ready}
-use borrow.Author.Rules.{rules}
 use Rattle.load_draw.proofs.draw_formula.Goals as goal
 
 pub returns-then-refusal-ne0 : goal.returns-then-refusal-ne0

@@ -3,7 +3,6 @@ use mathlib.Core.Path.{sym, ◌∙◌}
 use borrow.Author.Tests.{not-true, not-false}
 use Rattle.load_text.proofs.Starting.{start_nine, start-refused, start-load}
 use native.Mathlib.Omega.{arith}
-use borrow.Author.Rules.{rules}
 use Rattle.load_text.proofs.start.Goals as goal
 
 pub returns-then-not-input : goal.returns-then-not-input

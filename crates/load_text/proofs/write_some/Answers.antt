@@ -3,7 +3,6 @@ use mathlib.Core.Path.{refl}
 use Rattle.text_print.proofs.Decimals.{nothing}
 use Rattle.load_text.proofs.Parts.{part_none, part_told, answers, fit-answers}
 use native.Mathlib.Omega.{arith}
-use borrow.Author.Rules.{rules}
 use Rattle.load_text.proofs.write_some.Goals as goal
 
 pub returns-then-out-lt-LINE_MAX : goal.returns-then-out-lt-LINE_MAX

@@ -1,6 +1,5 @@
 -- `log_run::run_log` meets its contract: the windows are a copy, which is dropped where the call is refused. Assumes nothing.
 use mathlib.Core.Path.{◌∙◌}
-use borrow.Author.Rules.{rules}
 use Rattle.log_run.proofs.Stepping.{took_refused, took_whole}
 use Rattle.log_run.proofs.run_log.Goals as goal
 

@@ -2,7 +2,6 @@
 use mathlib.Core.Path.{refl, sym, ap, ◌∙◌}
 use mathlib.Core.List.{List}
 use Prim.Native.Nat.{ℕ}
-use borrow.Author.Rules.{rules}
 use Rattle.limits.proofs.Refusals.{within, refused_here, refused-later}
 use Rattle.expr.specs.Formula.{tokens}
 use Rattle.row_gates.specs.Gates.{row_or}

@@ -1,10 +1,10 @@
 -- `probe::row_at_points` meets its contract: the places passed hold the value at their points. Assumes nothing.
 use mathlib.Core.Path.{◌≡◌, refl, sym, ◌∙◌}
-use Prim.Native.Nat.{ℕ, ◌-◌, ◌≤◌}
+use Prim.Native.Nat.{◌-◌}
 use native.Mathlib.Omega.{arith}
 use borrow.Author.Rules.{rules}
-use lib.ListN.{length, length-set, get_or}
-use Rattle.arrays.proofs.Fill.{Filled, filled_more, filled-all}
+use lib.ListN.{length, length-set}
+use Rattle.arrays.proofs.Fill.{filled_more, filled-all}
 use Rattle.expr.specs.Formula.{tokens}
 use Rattle.probe.specs.FormulaRow.{row_of}
 use Rattle.probe.proofs.FormulaRows.{length-row_of, get_or-row_of}

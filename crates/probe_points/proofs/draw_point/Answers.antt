@@ -1,5 +1,5 @@
 -- `probe_points::draw_point` meets its contract: after i turns the first i words are drawn and the rest are 0. Assumes nothing.
-use Rattle.std.proofs.Common.{◌≡◌, ℕ, ◌-◌, ◌%◌, ◌^◌, ◌≤◌, List, ◌++◌, set, replicate, sym, refl, ap, ◌∙◌, add-one, arith, rules}
+use Rattle.std.proofs.Common.{◌≡◌, ℕ, ◌-◌, ◌%◌, ◌^◌, List, ◌++◌, set, replicate, sym, refl, ap, ◌∙◌, add-one, arith}
 use Rattle.arith.proofs.Remainders.{modulus-is}
 use Rattle.probe_points.specs.declared.Draw.{Draw}
 use Rattle.probe_points.specs.Points.{next_state, word_of, drawn, state_after, words_from, point_from}

@@ -1,9 +1,6 @@
 -- `probe_points::draw_point` meets its contract: after i turns the first i words are drawn and the rest are 0. Assumes nothing.
-use Rattle.std.proofs.Common.{◌≡◌, ℕ, ◌-◌, ◌%◌, ◌^◌, ◌≤◌, List, ◌++◌, set, replicate, sym, refl, ap, ◌∙◌, add-one, arith, rules}
-use Rattle.arith.proofs.Remainders.{modulus-is}
-use Rattle.probe_points.specs.declared.Draw.{Draw}
-use Rattle.probe_points.specs.Points.{next_state, word_of, drawn, state_after, words_from, point_from}
-use Rattle.probe_points.proofs.Draws.{state-after-suc, word_more}
+use Rattle.std.proofs.Common.{◌≡◌, ◌-◌, ◌≤◌, ◌++◌, replicate}
+use Rattle.probe_points.specs.Points.{state_after, words_from}
 use Rattle.probe_points.proofs.draw_point.Given as goal
 
 abbrev pub invariant-loop-i : goal.invariant-loop-i

@@ -1,5 +1,5 @@
 -- `probe_points::draw_points` meets its contract: the points made and those still to come are the sixteen. Assumes nothing.
-use Rattle.std.proofs.Common.{◌≡◌, ℕ, ◌-◌, ◌≤◌, ◌++◌, length, take, sym, refl, ap, ◌∙◌, append-nil, arith, length-set, take_all, rules}
+use Rattle.std.proofs.Common.{◌≡◌, ℕ, ◌-◌, ◌++◌, take, sym, refl, ap, ◌∙◌, append-nil, arith, length-set, take_all}
 use Rattle.probe_points.specs.Points.{points_from, probe_points}
 use Rattle.probe_points.proofs.Draws.{point-more}
 use Rattle.probe_points.proofs.draw_points.Goals as goal

@@ -1,5 +1,5 @@
 -- `probe_points::make_probe_points` meets its contract: count and width are tested in the table's order. Assumes nothing.
-use Rattle.std.proofs.Common.{Bool, List, sym, ap, ◌∙◌, ap₂, rules}
+use Rattle.std.proofs.Common.{Bool, List, sym, ap, ◌∙◌, ap₂}
 use Rattle.limits.specs.Refusal.{refuse, bad_width}
 use Rattle.limits.proofs.Refusals.{within}
 use Rattle.probe_points.specs.declared.Point.{Point}

@@ -1,5 +1,5 @@
 -- `probe_points::splitmix64` meets its contract, step by step as published. Assumes nothing.
-use Rattle.std.proofs.Common.{◌≡◌, ℕ, ◌*◌, ◌/◌, ◌%◌, ◌^◌, ap, ◌∙◌, rules}
+use Rattle.std.proofs.Common.{◌≡◌, ℕ, ◌*◌, ◌/◌, ◌%◌, ◌^◌, ap, ◌∙◌}
 use lib.Bits.{bit_xor}
 use Rattle.probe_points.specs.Points.{next_state, word_of}
 use Rattle.probe_points.proofs.splitmix64.Goals as goal

@@ -1,11 +1,8 @@
 -- `row_fingerprint::fingerprint` meets its contract: what is folded so far and the words to come give the whole. Assumes nothing.
-use mathlib.Core.Path.{◌≡◌, refl, sym, ap, ◌∙◌}
-use Prim.Native.Nat.{ℕ, ◌+◌, ◌-◌, ◌≤◌}
-use native.Mathlib.Omega.{arith}
-use borrow.Author.Rules.{rules}
+use mathlib.Core.Path.{◌≡◌}
+use Prim.Native.Nat.{◌-◌, ◌≤◌}
 use lib.ListN.{drop}
 use Rattle.row_fingerprint.specs.Fingerprint.{mixed, finished, fingerprint_of}
-use Rattle.row_fingerprint.proofs.Folding.{mixed-step, mixed_end}
 use Rattle.row_fingerprint.proofs.fingerprint.Given as goal
 
 abbrev pub invariant-loop-i : goal.invariant-loop-i

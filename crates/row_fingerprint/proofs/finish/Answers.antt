@@ -1,7 +1,6 @@
 -- `row_fingerprint::finish` meets its contract: a product that wraps, and a shift. Assumes nothing.
 use mathlib.Core.Path.{ap}
 use Prim.Native.Nat.{ℕ, ◌/◌, ◌^◌}
-use borrow.Author.Rules.{rules}
 use lib.Bits.{bit_xor}
 use Rattle.row_fingerprint.specs.Fingerprint.{finished}
 use Rattle.row_fingerprint.proofs.finish.Goals as goal

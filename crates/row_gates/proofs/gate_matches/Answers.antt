@@ -1,7 +1,6 @@
 -- `row_gates::gate_matches` meets its contract: the width is tested as the definition tests it. Assumes nothing.
 use mathlib.Core.Path.{sym, ap, ◌∙◌}
 use mathlib.Core.Bool.{Bool}
-use borrow.Author.Rules.{rules}
 use Rattle.limits.specs.Refusal.{refuse, outcome}
 use Rattle.limits.proofs.Refusals.{within}
 use Rattle.row_gates.specs.Gates.{gate_row, same_row}

@@ -3,7 +3,6 @@ use mathlib.Core.Path.{sym, ap, ◌∙◌}
 use mathlib.Core.Bool.{Bool}
 use mathlib.Core.List.{List}
 use Prim.Native.Nat.{ℕ}
-use borrow.Author.Rules.{rules}
 use Rattle.limits.specs.Refusal.{refuse}
 use Rattle.limits.proofs.Refusals.{within}
 use Rattle.row_gates.specs.Gates.{residual_row, row_or}

@@ -1,5 +1,5 @@
 -- `rule_run::run_rule` meets its contract: refused, nothing changes; else what `run` answers and leaves. Assumes nothing.
-use Rattle.std.proofs.Common.{ℕ, sym, ap, ◌∙◌, arith, rules}
+use Rattle.std.proofs.Common.{ℕ, sym, ap, ◌∙◌, arith}
 use Rattle.expr.specs.Formula.{tokens}
 use Rattle.rule_run.specs.Window.{mark_at, Ran, ran_or}
 use Rattle.rule_run.proofs.Feeding.{ready, ran-refused, ran-answered}

@@ -1,8 +1,6 @@
 -- `search_candidates::collect_mul_probe0_candidates` meets its contract: refused as the table says, not used, or what solves is listed. Assumes nothing.
 use mathlib.Core.Path.{sym, ◌∙◌}
 use native.Mathlib.Omega.{arith}
-use borrow.Author.Rules.{rules}
-use borrow.Author.Tests.{not-true, not-false}
 use Rattle.search_equation.proofs.Solutions.{solved_class, solved_none}
 use Rattle.search_filter.proofs.Running.{class_small}
 use Rattle.search_candidates.proofs.Answering.{zero_of, none-refused, refused_collected, unused_collected, none_collected, class_collected}

@@ -5,7 +5,6 @@ use borrow.Author.Tests.{lt-ltb, le-ltb, le-leb, lt-leb}
 use Rattle.limits.specs.Refusal.{outcome}
 use Rattle.limits.proofs.Refusals.{refused_here, refused-later, or_here, or_later}
 use Rattle.simjaldek_abi.specs.Reply.{number_reply}
-use borrow.Author.Rules.{rules}
 use Rattle.simjaldek.proofs.simjaldek_atom_row.Goals as goal
 
 pub returns-then-atom_rows-atom_count : goal.returns-then-atom_rows-atom_count

@@ -4,7 +4,6 @@ use Rattle.bank_parts.specs.Parts.{arrays}
 use Rattle.simjaldek_abi.proofs.Early.{both_long}
 use Rattle.simjaldek.proofs.Banks.{bank-early, bank-built}
 use native.Mathlib.Omega.{arith}
-use borrow.Author.Rules.{rules}
 use Rattle.simjaldek.proofs.simjaldek_build_bank.Goals as goal
 
 pub returns-then-refusal-ne0 : goal.returns-then-refusal-ne0

@@ -1,7 +1,6 @@
 -- `simjaldek_eval` meets its contract: the reply of what the call answers. Assumes nothing.
 use mathlib.Core.Path.{ap, ◌∙◌}
 use Rattle.simjaldek_abi.specs.Reply.{word_reply}
-use borrow.Author.Rules.{rules}
 use Rattle.simjaldek.proofs.simjaldek_eval.Goals as goal
 
 pub returns : goal.returns

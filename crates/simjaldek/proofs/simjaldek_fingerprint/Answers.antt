@@ -7,7 +7,6 @@ use Rattle.limits.proofs.Refusals.{refused_here, refused-later}
 use Rattle.row_fingerprint.specs.Fingerprint.{fingerprint_of}
 use Rattle.simjaldek_abi.specs.Slices.{row_in}
 use Rattle.simjaldek_abi.specs.Reply.{word_reply}
-use borrow.Author.Rules.{rules}
 use Rattle.simjaldek.proofs.simjaldek_fingerprint.Goals as goal
 
 pub returns-then-row-lt-ROW_WORDS : goal.returns-then-row-lt-ROW_WORDS

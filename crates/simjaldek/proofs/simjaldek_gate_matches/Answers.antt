@@ -8,7 +8,6 @@ use Rattle.simjaldek_abi.specs.Slices.{row_in, three_short, gate_refusal}
 use Rattle.simjaldek_abi.specs.Reply.{match_reply}
 use Rattle.simjaldek_abi.proofs.Early.{told-early, told-call, gate_numbered, gate-long, three-long, same3}
 use native.Mathlib.Omega.{arith}
-use borrow.Author.Rules.{rules}
 use Rattle.simjaldek.proofs.simjaldek_gate_matches.Goals as goal
 
 pub returns-then-refusal-ne0 : goal.returns-then-refusal-ne0

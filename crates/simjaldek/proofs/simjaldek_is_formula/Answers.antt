@@ -1,7 +1,6 @@
 -- `simjaldek_is_formula` meets its contract: the mark of what the call answers. Assumes nothing.
 use mathlib.Core.Path.{ap, ◌∙◌}
 use Rattle.simjaldek_abi.specs.Reply.{mark_of}
-use borrow.Author.Rules.{rules}
 use Rattle.simjaldek.proofs.simjaldek_is_formula.Goals as goal
 
 pub returns : goal.returns

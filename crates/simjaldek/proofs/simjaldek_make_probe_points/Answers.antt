@@ -5,7 +5,6 @@ use Prim.Native.Nat.{ℕ}
 use Rattle.simjaldek_abi.specs.declared.PointWords.{PointWords}
 use Rattle.simjaldek_abi.specs.declared.PointsReply.{PointsReply}
 use Rattle.simjaldek_abi.specs.Reply.{points_reply}
-use borrow.Author.Rules.{rules}
 use Rattle.simjaldek.proofs.simjaldek_make_probe_points.Goals as goal
 
 abbrev points_beside : ℕ → List PointWords → PointsReply

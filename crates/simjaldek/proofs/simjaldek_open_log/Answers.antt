@@ -3,7 +3,6 @@ use mathlib.Core.Path.{ap, ◌∙◌}
 use Rattle.log_run.specs.declared.Log.{Log}
 use Rattle.log_run.specs.Step.{opened}
 use Rattle.simjaldek_abi.specs.Reply.{log_state}
-use borrow.Author.Rules.{rules}
 use Rattle.simjaldek.proofs.simjaldek_open_log.Goals as goal
 
 pub returns : goal.returns

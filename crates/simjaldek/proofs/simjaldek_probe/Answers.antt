@@ -7,7 +7,6 @@ use Rattle.probe.specs.FormulaRow.{probed}
 use Rattle.simjaldek_abi.specs.Slices.{points_in, points_refusal}
 use Rattle.simjaldek_abi.proofs.Early.{points-long, row-early, row-call}
 use native.Mathlib.Omega.{arith}
-use borrow.Author.Rules.{rules}
 use Rattle.simjaldek.proofs.simjaldek_probe.Goals as goal
 
 pub returns-then-refusal-ne0 : goal.returns-then-refusal-ne0

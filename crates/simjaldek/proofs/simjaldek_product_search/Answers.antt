@@ -11,7 +11,6 @@ use Rattle.simjaldek_abi.specs.Slices.{row_in, row_refusal}
 use Rattle.simjaldek_abi.specs.Reply.{product_reply}
 use Rattle.simjaldek_abi.proofs.Early.{told-early, told-call, row-long}
 use native.Mathlib.Omega.{arith}
-use borrow.Author.Rules.{rules}
 use Rattle.simjaldek.proofs.simjaldek_product_search.Goals as goal
 
 pub returns-then-refusal-ne0 : goal.returns-then-refusal-ne0

@@ -10,7 +10,6 @@ use Rattle.simjaldek_abi.specs.Slices.{row_in, row_refusal}
 use Rattle.simjaldek_abi.specs.Reply.{residual_reply}
 use Rattle.simjaldek_abi.proofs.Early.{told-early, told-call, row-long}
 use native.Mathlib.Omega.{arith}
-use borrow.Author.Rules.{rules}
 use Rattle.simjaldek.proofs.simjaldek_residual_search.Goals as goal
 
 pub returns-then-number-ne0 : goal.returns-then-number-ne0

@@ -2,7 +2,6 @@
 use mathlib.Core.Path.{◌≡◌, sym, ap, ◌∙◌}
 use Prim.Native.Nat.{ℕ}
 use native.Mathlib.Omega.{arith}
-use borrow.Author.Rules.{rules}
 use Rattle.limits.proofs.Refusals.{unless_refused_lem, unless_not}
 use Rattle.log_run.specs.declared.Log.{Log}
 use Rattle.log_run.specs.Steps.{took_says}

@@ -1,7 +1,6 @@
 -- `simjaldek_splitmix64` meets its contract: the fields of what the call answers. Assumes nothing.
 use mathlib.Core.Path.{ap}
 use Rattle.simjaldek_abi.specs.Reply.{draw_reply}
-use borrow.Author.Rules.{rules}
 use Rattle.simjaldek.proofs.simjaldek_splitmix64.Goals as goal
 
 pub returns : goal.returns

@@ -2,7 +2,6 @@
 use mathlib.Core.Path.{ap, ◌∙◌}
 use Rattle.expr.specs.declared.Token.{Token}
 use Rattle.simjaldek_abi.specs.Reply.{token_reply}
-use borrow.Author.Rules.{rules}
 use Rattle.simjaldek.proofs.simjaldek_token_at.Goals as goal
 
 pub returns : goal.returns

@@ -2,7 +2,6 @@
 use mathlib.Core.Path.{sym, ap}
 use mathlib.Core.List.{[]}
 use native.Mathlib.Omega.{arith}
-use borrow.Author.Rules.{rules}
 use Rattle.simjaldek.proofs.Texts.{answer_text, texted}
 use Rattle.simjaldek.proofs.simjaldek_write_listing.Goals as goal
 

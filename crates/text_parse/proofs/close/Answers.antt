@@ -1,5 +1,5 @@
 -- `text_parse::close` meets its contract: the word begun is a number, and the numbers done have it as their last. Assumes nothing.
-use Rattle.std.proofs.Common.{refl, arith, rules}
+use Rattle.std.proofs.Common.{refl, arith}
 use Rattle.text_parse.proofs.Readings.{closed}
 use Rattle.text_parse.proofs.close.Goals as goal
 

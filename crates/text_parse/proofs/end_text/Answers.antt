@@ -1,5 +1,4 @@
 -- `text_parse::end_text` meets its contract: a parting byte at the end changes no word, and after it all numbers are done. Assumes nothing.
-use Rattle.std.proofs.Common.{rules}
 use Rattle.text_parse.proofs.Readings.{at_end_of, at_end_spoilt}
 use Rattle.text_parse.proofs.end_text.Goals as goal
 

@@ -1,6 +1,5 @@
 -- `text_parse::feed` meets its contract: after i bytes numbers and scan are the state of the text and the first i bytes of the part. Assumes nothing.
-use Rattle.std.proofs.Common.{◌≡◌, ℕ, ◌+◌, ◌-◌, ◌^◌, ◌<◌, ◌≤◌, List, [], ◌∷◌, ◌++◌, length, get_or, take, sym, subst, append_assoc, append-nil, add-one, arith, length-append, length-take, take_all, take-suc, rules}
-use Rattle.text_parse.specs.declared.Parse.{Parse}
+use Rattle.std.proofs.Common.{◌≡◌, ℕ, ◌+◌, ◌-◌, ◌^◌, ◌<◌, ◌≤◌, List, ◌++◌, length, take}
 use Rattle.text_parse.specs.Reading.{kept, Reads}
 use Rattle.text_parse.specs.Steps.{joined}
 use Rattle.text_parse.proofs.feed.Given as goal

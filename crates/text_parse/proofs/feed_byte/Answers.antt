@@ -1,5 +1,5 @@
 -- `text_parse::feed_byte` meets its contract: each kind of byte has its law in Readings.antt. Assumes nothing.
-use Rattle.std.proofs.Common.{sym, ◌∙◌, rules}
+use Rattle.std.proofs.Common.{sym, ◌∙◌}
 use Rattle.text_parse.proofs.Readings.{spoilt_stays, spoilt_by_byte}
 use Rattle.text_parse.proofs.feed_byte.Goals as goal
 

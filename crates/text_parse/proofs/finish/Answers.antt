@@ -1,5 +1,4 @@
 -- `text_parse::finish` meets its contract: at the end all numbers are done, and `listing_many` of them is the test of `count` and the first. Assumes nothing.
-use Rattle.std.proofs.Common.{rules}
 use Rattle.text_parse.proofs.Readings.{ended, listing_follows}
 use Rattle.text_parse.proofs.finish.Goals as goal
 

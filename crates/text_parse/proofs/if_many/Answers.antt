@@ -1,5 +1,4 @@
 -- `text_parse::if_many` meets its contract: the two tests are those of `answered`. Assumes nothing.
-use Rattle.std.proofs.Common.{inl, inr}
 use Rattle.text_parse.proofs.if_many.Goals as goal
 
 pub returns-then-q : goal.returns-then-q

@@ -1,5 +1,4 @@
 -- `text_parse::keep` meets its contract: the place `count` gets the number, where there is one. Assumes nothing.
-use Rattle.std.proofs.Common.{rules}
 use Rattle.text_parse.proofs.Readings.{keeps-set, keeps-full}
 use Rattle.text_parse.proofs.keep.Goals as goal
 

@@ -1,5 +1,5 @@
 -- `text_parse::lengthen` meets its contract: a value that 10 times and a digit take to 2^64 or more stays there, so the word is no number whatever follows; else the word has one digit more. Assumes nothing.
-use Rattle.std.proofs.Common.{refl, arith, rules}
+use Rattle.std.proofs.Common.{refl, arith}
 use Rattle.text_parse.specs.Steps.{joined}
 use Rattle.text_parse.proofs.Readings.{digit_bounds, spoilt_by_value, longer}
 use Rattle.text_parse.proofs.lengthen.Goals as goal

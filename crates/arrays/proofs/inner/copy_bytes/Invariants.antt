@@ -1,10 +1,8 @@
 -- `arrays::inner::copy_bytes` meets its contract: the places passed hold the elements handed in. Assumes nothing.
-use mathlib.Core.Path.{◌≡◌, refl}
+use mathlib.Core.Path.{◌≡◌}
 use Prim.Native.Nat.{ℕ, ◌-◌, ◌≤◌}
-use native.Mathlib.Omega.{arith}
-use borrow.Author.Rules.{rules}
-use lib.ListN.{length, get_or, length-set}
-use Rattle.arrays.proofs.Fill.{Filled, filled_more, filled-all}
+use lib.ListN.{length, get_or}
+use Rattle.arrays.proofs.Fill.{Filled}
 use Rattle.arrays.proofs.inner.copy_bytes.Given as goal
 
 abbrev pub invariant-loop-i : goal.invariant-loop-i

@@ -1,10 +1,9 @@
 -- `arrays::inner::copy_words` meets its contract: the places passed hold the elements handed in. Assumes nothing.
-use mathlib.Core.Path.{◌≡◌, refl}
-use Prim.Native.Nat.{ℕ, ◌-◌, ◌≤◌}
+use mathlib.Core.Path.{refl}
 use native.Mathlib.Omega.{arith}
 use borrow.Author.Rules.{rules}
-use lib.ListN.{length, get_or, length-set}
-use Rattle.arrays.proofs.Fill.{Filled, filled_more, filled-all}
+use lib.ListN.{length-set}
+use Rattle.arrays.proofs.Fill.{filled_more, filled-all}
 use Rattle.arrays.proofs.inner.copy_words.Goals as goal
 
 pub loop-i-init : goal.loop-i-init

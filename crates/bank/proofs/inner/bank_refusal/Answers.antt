@@ -1,6 +1,5 @@
 -- `bank::inner::bank_refusal` meets its contract: the conditions in the table's order. Assumes nothing.
 use mathlib.Core.Path.{refl, sym, ◌∙◌}
-use borrow.Author.Rules.{rules}
 use Rattle.limits.proofs.Refusals.{refused_here, refused-later, or_here, or_later, within}
 use Rattle.bank.proofs.inner.bank_refusal.Goals as goal
 

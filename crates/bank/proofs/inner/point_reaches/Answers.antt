@@ -3,10 +3,8 @@ use mathlib.Core.Path.{◌≡◌, refl, sym, ◌∙◌}
 use Prim.Native.Nat.{◌-◌, ◌^◌, ◌≤◌, ◌<◌}
 use native.Mathlib.Omega.{arith}
 use borrow.Author.Rules.{rules}
-use lib.ListN.{length, get_or, take, drop}
+use lib.ListN.{length, get_or, take}
 use lib.Seq.{length-take-le, get_or-take}
-use Rattle.arith.specs.Word.{modulus}
-use Rattle.row_lent.specs.Range.{reaches}
 use Rattle.arith.proofs.Remainders.{mask_lt, mask_le}
 use Rattle.row_lent.proofs.Reaching.{reaches_here, reaches-later, reaches-none}
 use Rattle.bank.proofs.inner.point_reaches.Goals as goal

@@ -1,14 +1,9 @@
 -- `bank::inner::point_reaches` meets its contract: the words passed are below 2 ^ w. Assumes nothing.
-use mathlib.Core.Path.{◌≡◌, refl, sym, ◌∙◌}
-use Prim.Native.Nat.{◌-◌, ◌^◌, ◌≤◌, ◌<◌}
-use native.Mathlib.Omega.{arith}
-use borrow.Author.Rules.{rules}
-use lib.ListN.{length, get_or, take, drop}
-use lib.Seq.{length-take-le, get_or-take}
+use mathlib.Core.Path.{◌≡◌}
+use Prim.Native.Nat.{◌-◌, ◌^◌, ◌≤◌}
+use lib.ListN.{take, drop}
 use Rattle.arith.specs.Word.{modulus}
 use Rattle.row_lent.specs.Range.{reaches}
-use Rattle.arith.proofs.Remainders.{mask_lt, mask_le}
-use Rattle.row_lent.proofs.Reaching.{reaches_here, reaches-later, reaches-none}
 use Rattle.bank.proofs.inner.point_reaches.Given as goal
 
 abbrev pub invariant-loop-i : goal.invariant-loop-i

@@ -1,10 +1,9 @@
 -- `bank::inner::points_reach` meets its contract: the words of the points passed are below 2 ^ w. Assumes nothing.
 use mathlib.Core.Path.{◌≡◌, refl, sym, ◌∙◌}
-use Prim.Native.Nat.{◌-◌, ◌^◌, ◌≤◌}
+use Prim.Native.Nat.{◌-◌, ◌^◌}
 use native.Mathlib.Omega.{arith}
 use borrow.Author.Rules.{rules}
-use lib.ListN.{length, drop}
-use Rattle.bank.specs.Build.{points_reach}
+use lib.ListN.{length}
 use Rattle.bank.proofs.Reaching.{points_here, points_later, points_none}
 use Rattle.bank.proofs.inner.points_reach.Goals as goal
 

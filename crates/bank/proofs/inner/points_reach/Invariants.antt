@@ -1,11 +1,8 @@
 -- `bank::inner::points_reach` meets its contract: the words of the points passed are below 2 ^ w. Assumes nothing.
-use mathlib.Core.Path.{◌≡◌, refl, sym, ◌∙◌}
+use mathlib.Core.Path.{◌≡◌}
 use Prim.Native.Nat.{◌-◌, ◌^◌, ◌≤◌}
-use native.Mathlib.Omega.{arith}
-use borrow.Author.Rules.{rules}
-use lib.ListN.{length, drop}
+use lib.ListN.{drop}
 use Rattle.bank.specs.Build.{points_reach}
-use Rattle.bank.proofs.Reaching.{points_here, points_later, points_none}
 use Rattle.bank.proofs.inner.points_reach.Given as goal
 
 abbrev pub invariant-loop-k : goal.invariant-loop-k

@@ -1,6 +1,5 @@
 -- `bank::inner::too_small` meets its contract, array by array. Assumes nothing.
 use mathlib.Core.Path.{refl, sym}
-use borrow.Author.Rules.{rules}
 use borrow.Author.Tests.{lt-ltb, le-ltb}
 use Rattle.limits.proofs.Refusals.{or_here, or_later}
 use Rattle.bank.proofs.inner.too_small.Goals as goal

@@ -3,7 +3,6 @@ use mathlib.Core.Path.{ap, ◌∙◌}
 use Prim.Native.Nat.{ℕ, ◌%◌}
 use Rattle.arith.proofs.Remainders.{modulus-is}
 use Rattle.bank_atom.proofs.Making.{constant-is}
-use borrow.Author.Rules.{rules}
 use Rattle.bank_atom.proofs.inner.constant.Goals as goal
 
 pub returns : goal.returns

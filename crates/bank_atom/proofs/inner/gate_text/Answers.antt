@@ -1,6 +1,5 @@
 -- `bank_atom::inner::gate_text` meets its contract: both texts, and the gate's token after them. Assumes nothing.
 use Rattle.bank_atom.proofs.Making.{gate-text-is}
-use borrow.Author.Rules.{rules}
 use Rattle.bank_atom.proofs.inner.gate_text.Goals as goal
 
 pub returns : goal.returns

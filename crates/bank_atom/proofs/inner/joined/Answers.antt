@@ -1,7 +1,7 @@
 -- `bank_atom::inner::joined` meets its contract: the tokens of b that are passed stand after those of a. Assumes nothing.
-use mathlib.Core.Path.{◌≡◌, refl}
-use Prim.Native.Nat.{◌-◌, ◌≤◌}
-use lib.ListN.{length, length-set}
+use mathlib.Core.Path.{refl}
+use Prim.Native.Nat.{◌-◌}
+use lib.ListN.{length-set}
 use Rattle.bank_atom.proofs.Texts as texts
 use borrow.Author.Rules.{rules}
 use native.Mathlib.Omega.{arith}
@@ -13,8 +13,7 @@ loop-k-init c =
 
 pub loop-k-preserved : goal.loop-k-preserved
 loop-k-preserved c =
-    let l = c.loop-k in
-    (
+    let l = c.loop-k in (
       omega arith,
       (
         simp length-set (omega arith),

@@ -1,10 +1,8 @@
 -- `bank_atom::inner::joined` meets its contract: the tokens of b that are passed stand after those of a. Assumes nothing.
-use mathlib.Core.Path.{◌≡◌, refl}
+use mathlib.Core.Path.{◌≡◌}
 use Prim.Native.Nat.{◌-◌, ◌≤◌}
-use lib.ListN.{length, length-set}
+use lib.ListN.{length}
 use Rattle.bank_atom.proofs.Texts as texts
-use borrow.Author.Rules.{rules}
-use native.Mathlib.Omega.{arith}
 use Rattle.bank_atom.proofs.inner.joined.Given as goal
 
 abbrev pub invariant-loop-k : goal.invariant-loop-k

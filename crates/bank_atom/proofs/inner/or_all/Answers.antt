@@ -1,6 +1,6 @@
 -- `bank_atom::inner::or_all` meets its contract: the words passed, from the last on, are joined. Assumes nothing.
 use mathlib.Core.Path.{◌≡◌, ap, ◌∙◌}
-use Prim.Native.Nat.{ℕ, suc, ◌-◌, ◌≤◌}
+use Prim.Native.Nat.{ℕ, suc, ◌-◌}
 use native.Mathlib.Omega.{arith}
 use lib.ListN.{drop}
 use Rattle.bank_spec.specs.Bank.{or_all}

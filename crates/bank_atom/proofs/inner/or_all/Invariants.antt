@@ -1,11 +1,8 @@
 -- `bank_atom::inner::or_all` meets its contract: the words passed, from the last on, are joined. Assumes nothing.
-use mathlib.Core.Path.{◌≡◌, ap, ◌∙◌}
-use Prim.Native.Nat.{ℕ, suc, ◌-◌, ◌≤◌}
-use native.Mathlib.Omega.{arith}
+use mathlib.Core.Path.{◌≡◌}
+use Prim.Native.Nat.{◌-◌, ◌≤◌}
 use lib.ListN.{drop}
 use Rattle.bank_spec.specs.Bank.{or_all}
-use Rattle.bank_atom.proofs.SeedLaws.{or_none, or_more}
-use borrow.Author.Rules.{rules}
 use Rattle.bank_atom.proofs.inner.or_all.Given as goal
 
 abbrev pub invariant-loop-i : goal.invariant-loop-i

@@ -1,9 +1,6 @@
 -- `bank_atom::inner::seeds_of` meets its contract: what is left to take from here on gives the seeds. Assumes nothing.
-use mathlib.Core.Path.{refl}
 use Prim.Native.Nat.{◌-◌, ◌≤◌}
-use Rattle.bank_atom.proofs.SeedLaws.{Seeding, seeding_first, seeding_more, seeding_done}
-use borrow.Author.Rules.{rules}
-use native.Mathlib.Omega.{arith}
+use Rattle.bank_atom.proofs.SeedLaws.{Seeding}
 use Rattle.bank_atom.proofs.inner.seeds_of.Given as goal
 
 abbrev pub invariant-loop-i : goal.invariant-loop-i

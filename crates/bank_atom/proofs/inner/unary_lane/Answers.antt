@@ -1,6 +1,5 @@
 -- `bank_atom::inner::unary_lane` meets its contract, by the token. Assumes nothing.
 use Rattle.bank_atom.proofs.Making.{neg-lane, not-lane}
-use borrow.Author.Rules.{rules}
 use Rattle.bank_atom.proofs.inner.unary_lane.Goals as goal
 
 pub returns-in-Neg : goal.returns-in-Neg

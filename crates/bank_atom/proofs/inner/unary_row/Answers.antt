@@ -1,9 +1,8 @@
 -- `bank_atom::inner::unary_row` meets its contract: the places passed hold what the token gives there. Assumes nothing.
-use mathlib.Core.Path.{◌≡◌, refl}
-use Prim.Native.Nat.{ℕ, ◌-◌, ◌≤◌}
-use lib.ListN.{length, get_or, length-set}
-use Rattle.arrays.proofs.Fill.{Filled, filled_more}
-use Rattle.bank_atom.specs.Entry.{unary_of}
+use mathlib.Core.Path.{refl}
+use Prim.Native.Nat.{◌-◌}
+use lib.ListN.{length-set}
+use Rattle.arrays.proofs.Fill.{filled_more}
 use Rattle.bank_atom.proofs.Making.{unary_row-is}
 use borrow.Author.Rules.{rules}
 use native.Mathlib.Omega.{arith}

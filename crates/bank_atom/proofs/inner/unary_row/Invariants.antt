@@ -1,12 +1,9 @@
 -- `bank_atom::inner::unary_row` meets its contract: the places passed hold what the token gives there. Assumes nothing.
-use mathlib.Core.Path.{◌≡◌, refl}
+use mathlib.Core.Path.{◌≡◌}
 use Prim.Native.Nat.{ℕ, ◌-◌, ◌≤◌}
-use lib.ListN.{length, get_or, length-set}
-use Rattle.arrays.proofs.Fill.{Filled, filled_more}
+use lib.ListN.{length, get_or}
+use Rattle.arrays.proofs.Fill.{Filled}
 use Rattle.bank_atom.specs.Entry.{unary_of}
-use Rattle.bank_atom.proofs.Making.{unary_row-is}
-use borrow.Author.Rules.{rules}
-use native.Mathlib.Omega.{arith}
 use Rattle.bank_atom.proofs.inner.unary_row.Given as goal
 
 abbrev pub invariant-loop-k : goal.invariant-loop-k

@@ -1,6 +1,5 @@
 -- `bank_atom::inner::under_gate` meets its contract: text, cost and row are each those of the gate. Assumes nothing.
 use Rattle.bank_atom.proofs.Making.{under_gate-is}
-use borrow.Author.Rules.{rules}
 use Rattle.bank_atom.proofs.inner.under_gate.Goals as goal
 
 pub returns : goal.returns

@@ -1,6 +1,5 @@
 -- `bank_atom::inner::under_unary` meets its contract: text, cost and row are each those under the token. Assumes nothing.
 use Rattle.bank_atom.proofs.Making.{under_unary_is}
-use borrow.Author.Rules.{rules}
 use Rattle.bank_atom.proofs.inner.under_unary.Goals as goal
 
 pub returns : goal.returns

@@ -1,6 +1,5 @@
 -- `bank_atom::inner::variable` meets its contract: one token over its row. Assumes nothing.
 use Rattle.bank_atom.proofs.Making.{variable-is}
-use borrow.Author.Rules.{rules}
 use Rattle.bank_atom.proofs.inner.variable.Goals as goal
 
 pub returns : goal.returns

@@ -1,11 +1,8 @@
 -- `bank_atom::inner::variable_row` meets its contract: the places passed hold the reduced word of their points. Assumes nothing.
-use mathlib.Core.Path.{◌≡◌, refl}
-use mathlib.Core.List.{[], ◌∷◌}
-use Prim.Native.Nat.{ℕ, ◌-◌, ◌≤◌}
-use lib.ListN.{length, get_or, length-set}
-use Rattle.arrays.proofs.Fill.{Filled, filled_more}
-use Rattle.expr.specs.declared.Token.TheVariants.{Variable}
-use Rattle.probe.specs.FormulaRow.{row_of}
+use mathlib.Core.Path.{refl}
+use Prim.Native.Nat.{◌-◌}
+use lib.ListN.{length-set}
+use Rattle.arrays.proofs.Fill.{filled_more}
 use Rattle.bank_atom.proofs.Making.{variable-word, variable-row-is}
 use borrow.Author.Rules.{rules}
 use native.Mathlib.Omega.{arith}

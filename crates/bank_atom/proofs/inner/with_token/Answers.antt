@@ -1,7 +1,6 @@
 -- `bank_atom::inner::with_token` meets its contract: the first free place of both arrays is written. Assumes nothing.
 use mathlib.Core.Path.{refl}
 use Rattle.bank_atom.proofs.Texts.{longer}
-use borrow.Author.Rules.{rules}
 use Rattle.bank_atom.proofs.inner.with_token.Goals as goal
 
 pub returns : goal.returns

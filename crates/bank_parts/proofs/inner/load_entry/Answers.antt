@@ -1,5 +1,4 @@
 -- `bank_parts::inner::load_entry` meets its contract: the five parts of a slot are those of the atom there. Assumes nothing.
-use borrow.Author.Rules.{rules}
 use Rattle.bank_parts.specs.Parts.{arrays}
 use Rattle.bank_parts.proofs.Storing.{loaded}
 use Rattle.bank_parts.proofs.inner.load_entry.Goals as goal

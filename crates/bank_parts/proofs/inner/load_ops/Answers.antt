@@ -1,6 +1,5 @@
 -- `bank_parts::inner::load_ops` meets its contract: the part that is copied is the slot's. Assumes nothing.
 use mathlib.Core.Path.{◌∙◌}
-use borrow.Author.Rules.{rules}
 use Rattle.arrays.proofs.Parts.{part_is}
 use Rattle.bank_parts.proofs.inner.load_ops.Goals as goal
 

@@ -1,7 +1,6 @@
 -- `bank_parts::inner::replace_if_better` meets its contract: the cost that it compares with is the one at the slot. Assumes nothing.
 use mathlib.Core.Path.{sym, ap, ◌∙◌}
 use mathlib.Core.Bool.{Bool, cond}
-use borrow.Author.Rules.{rules}
 use Rattle.expr_cost.specs.Cost.{is_better}
 use Rattle.bank_parts.specs.Parts.{texts, put_text}
 use Rattle.bank_parts.proofs.inner.replace_if_better.Goals as goal

@@ -1,6 +1,5 @@
 -- `bank_parts::inner::write_cost` meets its contract: three stores make the whole part. Assumes nothing.
 use native.Mathlib.Omega.{arith}
-use borrow.Author.Rules.{rules}
 use Rattle.arrays.proofs.Fill.{three_stored}
 use Rattle.bank_parts.proofs.inner.write_cost.Goals as goal
 

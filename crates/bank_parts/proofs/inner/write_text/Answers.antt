@@ -3,7 +3,6 @@ use mathlib.Core.Path.{ap, ◌∙◌}
 use mathlib.Core.List.{List}
 use Prim.Native.Nat.{ℕ}
 use native.Mathlib.Omega.{arith}
-use borrow.Author.Rules.{rules}
 use Rattle.arrays.specs.Parts.{put_part}
 use Rattle.arrays.proofs.Parts.{put_is, put_one}
 use Rattle.bank_parts.proofs.Storing.{texts-are}

@@ -1,7 +1,6 @@
 -- `bank_phases::inner::build` meets its contract: the three phases one after the other, each over what the one before it left. Assumes nothing.
 use mathlib.Core.Path.{◌∙◌}
 use native.Mathlib.Omega.{arith}
-use borrow.Author.Rules.{rules}
 use Rattle.bank_spec.specs.Facts.{base_of}
 use Rattle.bank_parts.specs.Parts.{arrays}
 use Rattle.bank_unary.specs.Phases.{turned_of}

@@ -1,12 +1,11 @@
 -- `bank_phases::inner::push_seeds` meets its contract: before seed i the arrays hold the bank with the first i seeds pushed. Assumes nothing.
 use mathlib.Core.Path.{◌≡◌, refl, ◌∙◌}
-use Prim.Native.Nat.{◌-◌, ◌≤◌}
+use Prim.Native.Nat.{◌-◌}
 use native.Mathlib.Omega.{arith}
 use borrow.Author.Rules.{rules}
 use lib.ListN.{length}
 use Rattle.bank_parts.specs.Parts.{arrays}
-use Rattle.bank_unary.proofs.Phasing.{Kept}
-use Rattle.bank_phases.proofs.Stocking.{Sowing, turned_few, sowing_none, sowing_more, sowing_done}
+use Rattle.bank_phases.proofs.Stocking.{turned_few, sowing_none, sowing_more, sowing_done}
 use Rattle.bank_phases.proofs.inner.push_seeds.Goals as goal
 
 pub loop-i-init : goal.loop-i-init

@@ -1,12 +1,9 @@
 -- `bank_phases::inner::push_stock` meets its contract: the formulas from the cursor on, pushed into the atoms so far, give the bank after the stock. Assumes nothing.
-use mathlib.Core.Path.{refl, sym, ◌∙◌}
-use borrow.Author.Rules.{rules}
-use borrow.Author.Tests.{not-true, not-false}
 use lib.ListN.{length}
 use Rattle.bank_stock.specs.Cursor.{rest_of}
 use Rattle.bank_parts.specs.Parts.{arrays}
 use Rattle.bank_unary.proofs.Phasing.{Kept}
-use Rattle.bank_phases.proofs.Stocking.{Stocking, stocking_none, stocking_few, stocking_less, stocking_more, stocking_done}
+use Rattle.bank_phases.proofs.Stocking.{Stocking}
 use Rattle.bank_phases.proofs.inner.push_stock.Given as goal
 
 abbrev pub invariant-loop-points : goal.invariant-loop-points

@@ -1,6 +1,5 @@
 -- `bank_push::inner::push` meets its contract: the map finds the slot that `push` finds in the list, and each arm does there what `push` does. Assumes nothing.
 use native.Mathlib.Omega.{arith}
-use borrow.Author.Rules.{rules}
 use Rattle.row_map.proofs.MapLaws.{lookup_at, lookup_free}
 use Rattle.bank_parts.specs.Parts.{arrays, texts}
 use Rattle.bank_push.proofs.Pushing.{room-kept, pushed_held, pushed_new}

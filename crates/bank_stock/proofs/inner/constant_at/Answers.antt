@@ -1,6 +1,5 @@
 -- `bank_stock::inner::constant_at` meets its contract, by the test. Assumes nothing.
 use Rattle.bank_stock.proofs.Forms.{constant-low, constant-high}
-use borrow.Author.Rules.{rules}
 use Rattle.bank_stock.proofs.inner.constant_at.Goals as goal
 
 pub returns-then-k-lt-OWN_NUMBERS : goal.returns-then-k-lt-OWN_NUMBERS

@@ -5,7 +5,6 @@ use Rattle.expr.proofs.Formulas.{variable-passes}
 use Rattle.bank_atom.proofs.Making.{extends, joins}
 use Rattle.bank_stock.proofs.Forms.{variable_varies, minus_passes, minus_varies}
 use native.Mathlib.Omega.{arith}
-use borrow.Author.Rules.{rules}
 use Rattle.bank_stock.proofs.inner.difference_at.Goals as goal
 
 pub under_unary-minus-requires : goal.under_unary-minus-requires

@@ -1,6 +1,5 @@
 -- `bank_stock::inner::difference_from` meets its contract: the next difference of variable i, else the first of the next variable, else the end. Assumes nothing.
 use Rattle.bank_stock.proofs.Walk.{difference_here, difference_next, difference_none}
-use borrow.Author.Rules.{rules}
 use Rattle.bank_stock.proofs.inner.difference_from.Goals as goal
 
 pub returns-then-at-nv : goal.returns-then-at-nv

@@ -4,7 +4,6 @@ use borrow.Author.Tests.{lt-ltb, le-ltb}
 use Rattle.bank_stock.specs.Cursor.{next_of}
 use Rattle.bank_stock.proofs.Walk.{next-at, within-constant, within-variable, within_pair, within_difference}
 use native.Mathlib.Omega.{arith}
-use borrow.Author.Rules.{rules}
 use Rattle.bank_stock.proofs.inner.next.Goals as goal
 
 pub overflow_add-k : goal.overflow_add-k

@@ -1,7 +1,6 @@
 -- `bank_stock::inner::next_pair` meets its contract, test by test. Assumes nothing.
 use borrow.Author.Tests.{lt-ltb, le-ltb}
 use Rattle.bank_stock.specs.Cursor.{next_of}
-use borrow.Author.Rules.{rules}
 use Rattle.bank_stock.proofs.inner.next_pair.Goals as goal
 
 pub returns-then-k-lt-GATES : goal.returns-then-k-lt-GATES

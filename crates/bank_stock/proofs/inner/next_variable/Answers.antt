@@ -1,7 +1,6 @@
 -- `bank_stock::inner::next_variable` meets its contract, test by test. Assumes nothing.
 use borrow.Author.Tests.{lt-ltb, le-ltb}
 use Rattle.bank_stock.specs.Cursor.{next_of}
-use borrow.Author.Rules.{rules}
 use Rattle.bank_stock.proofs.inner.next_variable.Goals as goal
 
 pub returns-then-k-lt-FORMS : goal.returns-then-k-lt-FORMS

@@ -5,7 +5,6 @@ use Rattle.expr.proofs.Formulas.{variable-passes}
 use Rattle.bank_atom.proofs.Making.{joins}
 use Rattle.bank_stock.proofs.Forms.{variable_varies}
 use native.Mathlib.Omega.{arith}
-use borrow.Author.Rules.{rules}
 use Rattle.bank_stock.proofs.inner.pair_at.Goals as goal
 
 pub under_gate-requires : goal.under_gate-requires

@@ -1,6 +1,5 @@
 -- `bank_stock::inner::skip` meets its contract, by the test. Assumes nothing.
 use borrow.Author.Tests.{eq-eqb, ne_eqb}
-use borrow.Author.Rules.{rules}
 use Rattle.bank_stock.proofs.inner.skip.Goals as goal
 
 pub returns-then-i-j : goal.returns-then-i-j

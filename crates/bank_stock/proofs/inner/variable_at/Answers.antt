@@ -5,7 +5,6 @@ use Rattle.expr.proofs.Formulas.{variable-passes}
 use Rattle.bank_atom.proofs.Making.{extends}
 use Rattle.bank_stock.proofs.Forms.{entry-form, variable_0, variable_1, variable_2}
 use native.Mathlib.Omega.{arith}
-use borrow.Author.Rules.{rules}
 use Rattle.bank_stock.proofs.inner.variable_at.Goals as goal
 
 pub returns-then-k-eq0 : goal.returns-then-k-eq0

@@ -1,6 +1,5 @@
 -- `bank_unary::inner::push_turn` meets its contract: what is loaded is the atom at the slot, and the two pushes are `turn`'s. Assumes nothing.
 use native.Mathlib.Omega.{arith}
-use borrow.Author.Rules.{rules}
 use Rattle.bank_parts.specs.Parts.{arrays}
 use Rattle.bank_unary.proofs.Turning.{turn-slot, turn-room, turn_extends, turned}
 use Rattle.bank_unary.proofs.inner.push_turn.Goals as goal

@@ -1,14 +1,13 @@
 -- `bank_unary::inner::push_turns` meets its contract: before turn k the arrays hold the bank that k turns make of the base. Assumes nothing.
 use mathlib.Core.Path.{◌≡◌, refl, ◌∙◌, subst}
-use Prim.Native.Nat.{ℕ, ◌-◌, ◌≤◌}
+use Prim.Native.Nat.{ℕ, ◌-◌}
 use native.Mathlib.Omega.{arith}
-use borrow.Author.Rules.{rules}
 use lib.ListN.{length}
 use Rattle.bank_spec.specs.Facts.{before_turn, base_of}
 use Rattle.bank_spec.proofs.Banks.{base_few}
 use Rattle.bank_parts.specs.Parts.{arrays}
 use Rattle.bank_unary.specs.Phases.{Phase}
-use Rattle.bank_unary.proofs.Phasing.{Kept, holding}
+use Rattle.bank_unary.proofs.Phasing.{holding}
 use Rattle.bank_unary.proofs.Turning.{turns-first, turns-further}
 use Rattle.bank_unary.proofs.inner.push_turns.Goals as goal
 

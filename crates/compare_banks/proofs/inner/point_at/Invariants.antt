@@ -1,7 +1,6 @@
 -- `compare_banks::inner::point_at` is safe: the place stays below nv, which is at most 6. Assumes nothing.
 use mathlib.Core.Path.{◌≡◌}
 use Prim.Native.Nat.{◌-◌, ◌≤◌}
-use borrow.Author.Rules.{rules}
 use lib.ListN.{length}
 use Rattle.compare_banks.proofs.inner.point_at.Given as goal
 

@@ -1,9 +1,7 @@
 -- `compare_banks::inner::points_at` is safe: the point stays below 16. Assumes nothing.
 use mathlib.Core.Path.{◌≡◌}
 use Prim.Native.Nat.{◌+◌, ◌-◌, ◌*◌, ◌≤◌}
-use native.Mathlib.Omega.{arith}
-use borrow.Author.Rules.{rules}
-use lib.ListN.{length, length-set}
+use lib.ListN.{length}
 use Rattle.compare_banks.proofs.inner.points_at.Given as goal
 
 abbrev pub invariant-loop-k : goal.invariant-loop-k

@@ -1,7 +1,6 @@
 -- `compare_lines::inner::row_at` is safe: the place stays below 16. Assumes nothing.
 use mathlib.Core.Path.{◌≡◌}
 use Prim.Native.Nat.{◌-◌, ◌≤◌}
-use borrow.Author.Rules.{rules}
 use lib.ListN.{length}
 use Rattle.compare_lines.proofs.inner.row_at.Given as goal
 

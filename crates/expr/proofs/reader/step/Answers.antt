@@ -1,7 +1,6 @@
 -- `expr::reader::step` meets its contract: both arrays have the place, or there is no token. Assumes nothing.
 use mathlib.Core.Path.{sym, ◌∙◌}
 use Rattle.expr.proofs.Tokens.{token_in, token_past-ops, token_past-operands}
-use borrow.Author.Rules.{rules}
 use Rattle.expr.proofs.reader.step.Goals as goal
 
 pub returns-then-ops-at : goal.returns-then-ops-at

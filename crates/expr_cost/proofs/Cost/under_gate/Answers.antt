@@ -1,6 +1,5 @@
 -- `expr_cost::Cost::under_gate` meets its contract: what is added is within 32 bits. Assumes nothing.
 use Rattle.expr_cost.proofs.Costs.{gate_nonlinear, gate_linear}
-use borrow.Author.Rules.{rules}
 use Rattle.expr_cost.proofs.Cost.under_gate.Goals as goal
 
 pub returns-then-nonlinear : goal.returns-then-nonlinear

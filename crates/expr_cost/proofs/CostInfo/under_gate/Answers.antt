@@ -4,7 +4,6 @@ use mathlib.Core.Bool.{Bool}
 use Rattle.expr_cost.specs.declared.Cost.{Cost}
 use Rattle.expr_cost.specs.declared.CostInfo.{CostInfo}
 use Rattle.expr_cost.specs.Cost.{under_gate}
-use borrow.Author.Rules.{rules}
 use Rattle.expr_cost.proofs.CostInfo.under_gate.Goals as goal
 
 pub returns : goal.returns

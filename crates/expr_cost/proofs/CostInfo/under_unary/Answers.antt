@@ -2,7 +2,6 @@
 use mathlib.Core.Path.{ap}
 use Rattle.expr_cost.specs.declared.Cost.{Cost}
 use Rattle.expr_cost.specs.declared.CostInfo.{CostInfo}
-use borrow.Author.Rules.{rules}
 use Rattle.expr_cost.proofs.CostInfo.under_unary.Goals as goal
 
 pub returns : goal.returns

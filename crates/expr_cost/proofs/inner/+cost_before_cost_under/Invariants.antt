@@ -1,5 +1,5 @@
 -- The measure is twice the token count for `cost_under`, and one more for `cost_before`, which calls `cost_under` for the same formula. Assumes nothing.
-use Rattle.std.proofs.Common.{ℕ, ◌+◌, ◌-◌, ◌*◌}
+use Rattle.std.proofs.Common.{◌+◌, ◌-◌, ◌*◌}
 use Rattle.expr_cost.specs.Span.{back}
 use Rattle.expr_cost.proofs.inner.+cost_before_cost_under.Given as goal
 

@@ -1,6 +1,5 @@
 -- `expr_cost::inner::is_nonlinear` meets its contract, gate by gate. Assumes nothing.
 use Rattle.expr_cost.specs.Cost.{is_nonlinear}
-use borrow.Author.Rules.{rules}
 use Rattle.expr_cost.proofs.inner.is_nonlinear.Goals as goal
 
 pub returns-in-And : goal.returns-in-And

@@ -1,6 +1,5 @@
 -- `expr_eval::inner::eval_checked` meets its contract: none or too many are no formula; else the stack that it lends has room for every token. Assumes
 -- nothing.
-use borrow.Author.Rules.{rules}
 use Rattle.expr_eval.proofs.Checking.{check_few, check_many}
 use Rattle.expr_eval.proofs.inner.eval_checked.Goals as goal
 

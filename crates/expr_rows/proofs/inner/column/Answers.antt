@@ -1,11 +1,11 @@
 -- `expr_rows::inner::column` meets its contract: the places passed hold the reduced words. Assumes nothing.
-use mathlib.Core.Path.{◌≡◌, refl, ap, ◌∙◌}
-use Prim.Native.Nat.{ℕ, ◌+◌, ◌-◌, ◌*◌, ◌%◌, ◌^◌, ◌≤◌}
+use mathlib.Core.Path.{refl, ap, ◌∙◌}
+use Prim.Native.Nat.{ℕ, ◌+◌, ◌-◌, ◌*◌, ◌%◌}
 use native.Mathlib.Omega.{arith}
 use borrow.Author.Rules.{rules}
-use lib.ListN.{length, get_or, length-set}
+use lib.ListN.{get_or, length-set}
 use Rattle.arith.proofs.Remainders.{modulus-is}
-use Rattle.arrays.proofs.Fill.{Filled, filled_more}
+use Rattle.arrays.proofs.Fill.{filled_more}
 use Rattle.arrays.proofs.Parts.{part_within}
 use Rattle.expr_rows.proofs.inner.column.Goals as goal
 

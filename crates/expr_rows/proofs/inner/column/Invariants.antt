@@ -1,12 +1,8 @@
 -- `expr_rows::inner::column` meets its contract: the places passed hold the reduced words. Assumes nothing.
-use mathlib.Core.Path.{◌≡◌, refl, ap, ◌∙◌}
+use mathlib.Core.Path.{◌≡◌}
 use Prim.Native.Nat.{ℕ, ◌+◌, ◌-◌, ◌*◌, ◌%◌, ◌^◌, ◌≤◌}
-use native.Mathlib.Omega.{arith}
-use borrow.Author.Rules.{rules}
-use lib.ListN.{length, get_or, length-set}
-use Rattle.arith.proofs.Remainders.{modulus-is}
-use Rattle.arrays.proofs.Fill.{Filled, filled_more}
-use Rattle.arrays.proofs.Parts.{part_within}
+use lib.ListN.{length, get_or}
+use Rattle.arrays.proofs.Fill.{Filled}
 use Rattle.expr_rows.proofs.inner.column.Given as goal
 
 abbrev pub invariant-loop-j : goal.invariant-loop-j

@@ -1,12 +1,6 @@
 -- `expr_rows::inner::eval_row` meets its contract: each lane goes as the evaluator's stack. Assumes nothing.
-use mathlib.Core.Path.{sym, ap, ◌∙◌, subst}
-use mathlib.Core.List.{List}
-use Prim.Native.Nat.{ℕ, ◌+◌, ◌-◌, ◌≤◌}
-use native.Mathlib.Omega.{arith}
-use borrow.Author.Rules.{rules}
-use lib.ListN.{get_or}
-use Rattle.expr.specs.Formula.{arity}
-use Rattle.expr_rows.proofs.Lanes.{RowStage, rows_start, rows-low, rows-may, rows-there, rows_on, rows_end}
+use Prim.Native.Nat.{◌-◌, ◌≤◌}
+use Rattle.expr_rows.proofs.Lanes.{RowStage}
 use Rattle.expr_rows.proofs.inner.eval_row.Given as goal
 
 abbrev pub invariant-loop-i : goal.invariant-loop-i

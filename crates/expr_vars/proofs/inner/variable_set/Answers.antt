@@ -1,6 +1,5 @@
 -- `expr_vars::inner::variable_set` meets its contract: the shift loses nothing. Assumes nothing.
 use native.Mathlib.Omega.{arith}
-use borrow.Author.Rules.{rules}
 use Rattle.arith.proofs.Remainders.{shl_one}
 use Rattle.expr_vars.proofs.inner.variable_set.Goals as goal
 

@@ -1,5 +1,4 @@
 -- `index::inner::build` meets its contract: maps, trials, and then the order list in the same area. Assumes nothing.
-use borrow.Author.Rules.{rules}
 use Rattle.index.proofs.WholeLaws.{ready-start, made-is}
 use Rattle.index.proofs.inner.build.Goals as goal
 

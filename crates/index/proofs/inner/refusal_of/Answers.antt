@@ -1,7 +1,6 @@
 -- `index::inner::refusal_of` meets its contract: the tests stand in the table's order. Assumes nothing.
 use mathlib.Core.Path.{refl, sym, ◌∙◌}
 use Prim.Native.Nat.{◌-◌}
-use borrow.Author.Rules.{rules}
 use borrow.Author.Tests.{lt-ltb, le-ltb}
 use Rattle.limits.proofs.Refusals.{refused_here, refused-later}
 use Rattle.index.proofs.inner.refusal_of.Goals as goal

@@ -1,6 +1,5 @@
 -- `index::inner::too_short` meets its contract, array by array. Assumes nothing.
 use Prim.Native.Nat.{◌-◌}
-use borrow.Author.Rules.{rules}
 use borrow.Author.Tests.{lt-ltb, le-ltb}
 use Rattle.index.proofs.Passing.{or_last}
 use Rattle.index.proofs.inner.too_short.Goals as goal

@@ -1,5 +1,4 @@
 -- `index_loops::inner::first_c` meets its contract, gate by gate. Assumes nothing.
-use borrow.Author.Rules.{rules}
 use native.Mathlib.Numerals.{add-one}
 use Rattle.index_spec.specs.Index.{first_c}
 use Rattle.index_loops.proofs.inner.first_c.Goals as goal

@@ -1,7 +1,6 @@
 -- `index_maps::inner::bank_home` meets its contract: the chain is the fingerprint modulo 2^10. Assumes nothing.
 use mathlib.Core.Path.{◌≡◌, sym, ap, ◌∙◌, subst}
 use Prim.Native.Nat.{ℕ, ◌%◌, ◌^◌, ◌<◌}
-use borrow.Author.Rules.{rules}
 use Rattle.arrays.specs.Parts.{part_at}
 use Rattle.row_fingerprint.specs.Fingerprint.{fingerprint_of}
 use Rattle.row_map.specs.Map.{home_of}

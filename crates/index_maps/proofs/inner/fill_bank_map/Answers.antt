@@ -1,10 +1,9 @@
 -- `index_maps::inner::fill_bank_map` meets its contract: the map holds the rows passed. Assumes nothing.
 use mathlib.Core.Path.{◌≡◌, sym, subst}
 use mathlib.Core.List.{List}
-use Prim.Native.Nat.{ℕ, ◌-◌, ◌≤◌}
+use Prim.Native.Nat.{ℕ, ◌-◌}
 use native.Mathlib.Omega.{arith}
 use borrow.Author.Rules.{rules}
-use lib.ListN.{length}
 use Rattle.row_map.specs.Map.{homes_of, Held}
 use Rattle.row_map.proofs.MapLaws.{held-empty}
 use Rattle.index_maps.specs.Area.{bank_bits}

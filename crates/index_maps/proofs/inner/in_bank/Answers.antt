@@ -1,6 +1,5 @@
 -- `index_maps::inner::in_bank` meets its contract: what the map finds is what the rows hold. Assumes nothing.
 use mathlib.Core.Path.{sym}
-use borrow.Author.Rules.{rules}
 use Rattle.row_map.proofs.MapLaws.{lookup_at, lookup_free}
 use Rattle.index_maps.specs.Area.{bank_bits}
 use Rattle.index_maps.proofs.FindLaws.{hit-holds, miss_holds}

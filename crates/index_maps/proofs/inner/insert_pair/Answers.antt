@@ -3,7 +3,6 @@ use mathlib.Core.Path.{refl, sym, subst}
 use mathlib.Core.List.{List}
 use Prim.Native.Nat.{ℕ}
 use lib.ListN.{length}
-use borrow.Author.Rules.{rules}
 use Rattle.row_map.specs.Map.{Room}
 use Rattle.index_maps.specs.Area.{bank_area}
 use Rattle.index_maps.proofs.AreaLaws.{back_whole, inserted-back}

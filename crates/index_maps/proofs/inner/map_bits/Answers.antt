@@ -1,8 +1,6 @@
 -- `index_maps::inner::map_bits` meets its contract: there are 2^bits heads, and room for them. Assumes nothing.
-use mathlib.Core.Path.{◌≡◌}
-use Prim.Native.Nat.{◌+◌, ◌-◌, ◌^◌, ◌≤◌}
+use Prim.Native.Nat.{◌+◌, ◌-◌}
 use native.Mathlib.Omega.{arith}
-use borrow.Author.Rules.{rules}
 use Rattle.index_maps.specs.Area.{head_room}
 use Rattle.index_maps.proofs.AreaLaws.{doubled, few_bits}
 use Rattle.index_maps.proofs.inner.map_bits.Goals as goal

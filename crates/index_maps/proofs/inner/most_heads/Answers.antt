@@ -2,7 +2,6 @@
 use Prim.Native.Nat.{◌*◌}
 use native.Mathlib.Nat.{lt_of_le_of_lt, mul-le-mul}
 use native.Mathlib.Omega.{arith}
-use borrow.Author.Rules.{rules}
 use Rattle.index_maps.proofs.inner.most_heads.Goals as goal
 
 pub overflow_mul-wanted-2 : goal.overflow_mul-wanted-2

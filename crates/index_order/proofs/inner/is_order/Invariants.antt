@@ -1,8 +1,6 @@
 -- `index_order::inner::is_order` meets its contract: the entries passed are below n and ascend, and `word` and `last` are the last one's. Assumes nothing.
-use Rattle.std.proofs.Common.{◌≡◌, ℕ, ◌+◌, ◌-◌, ◌*◌, ◌<◌, ◌≤◌, List, length, get_or, take, sym, inl, inr, arith, rules}
-use native.Mathlib.Decide.{dec_lt}
-use Rattle.index_order.specs.Order.{first_word, is_order}
-use Rattle.index_order.proofs.Tested.{Passed, passed_none, passed_more, passed_all, fails_low, fails_word, fails_after, is_false}
+use Rattle.std.proofs.Common.{◌+◌, ◌-◌, ◌≤◌}
+use Rattle.index_order.proofs.Tested.{Passed}
 use Rattle.index_order.proofs.inner.is_order.Given as goal
 
 abbrev pub invariant-loop-i : goal.invariant-loop-i

@@ -1,12 +1,12 @@
 -- `index_trial::inner::gate_of_rows` meets its contract: the places passed hold what `gate_of` gives there. Assumes nothing.
-use mathlib.Core.Path.{◌≡◌, refl, sym, ap₂, ◌∙◌}
-use Prim.Native.Nat.{ℕ, ◌+◌, ◌-◌, ◌≤◌}
+use mathlib.Core.Path.{refl, sym, ap₂, ◌∙◌}
+use Prim.Native.Nat.{◌-◌}
 use native.Mathlib.Omega.{arith}
 use borrow.Author.Rules.{rules}
-use lib.ListN.{length, get_or, length-set}
+use lib.ListN.{length-set}
 use Rattle.arrays.specs.Parts.{part_at}
 use Rattle.arrays.proofs.Parts.{length-part, get_d_part}
-use Rattle.arrays.proofs.Fill.{Filled, filled_more, zipped}
+use Rattle.arrays.proofs.Fill.{filled_more, zipped}
 use Rattle.row_gates.specs.Gates.{gate_of, gate_row}
 use Rattle.index_trial.proofs.inner.gate_of_rows.Goals as goal
 

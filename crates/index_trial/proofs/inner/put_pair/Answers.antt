@@ -1,6 +1,5 @@
 -- `index_trial::inner::put_pair` meets its contract: the pair's own three words are lent. Assumes nothing.
 use mathlib.Core.Path.{ap, ◌∙◌}
-use borrow.Author.Rules.{rules}
 use Rattle.arrays.specs.Parts.{put_part}
 use Rattle.arrays.proofs.Parts.{put_is}
 use Rattle.index_trial.proofs.inner.put_pair.Goals as goal

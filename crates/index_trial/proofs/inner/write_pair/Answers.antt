@@ -2,7 +2,6 @@
 use mathlib.Core.Path.{ap, ◌∙◌}
 use mathlib.Core.List.{◌∷◌, []}
 use Prim.Native.Nat.{ℕ}
-use borrow.Author.Rules.{rules}
 use Rattle.arrays.proofs.Fill.{three_stored}
 use Rattle.index_trial.proofs.inner.write_pair.Goals as goal
 

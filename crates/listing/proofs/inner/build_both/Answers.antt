@@ -1,7 +1,6 @@
 -- `listing::inner::build_both` meets its contract: the index is built of the rows that the bank left. Assumes nothing.
 use mathlib.Core.Path.{◌∙◌}
 use native.Mathlib.Omega.{arith}
-use borrow.Author.Rules.{rules}
 use Rattle.bank_parts.specs.Parts.{arrays}
 use Rattle.listing.proofs.Building.{index-fits, both-built}
 use Rattle.listing.proofs.inner.build_both.Goals as goal

@@ -1,13 +1,8 @@
 -- `listing::inner::point_of` meets its contract: the words stored are the first of the point, zeros follow. Assumes nothing.
-use mathlib.Core.Path.{◌≡◌, refl, ap, ◌∙◌}
-use mathlib.Core.List.{List, [], ◌∷◌}
-use Prim.Native.Nat.{ℕ, ◌-◌, ◌≤◌}
-use native.Mathlib.Omega.{arith}
-use borrow.Author.Rules.{rules}
-use lib.ListN.{length, take, drop, length-set}
+use mathlib.Core.Path.{◌≡◌}
+use Prim.Native.Nat.{◌-◌, ◌≤◌}
+use lib.ListN.{length, take, drop}
 use Rattle.bank_spec.specs.Encoding.{pad_to}
-use Rattle.listing.specs.Steps.{point_from}
-use Rattle.listing.proofs.Numbers.{point-more}
 use Rattle.listing.proofs.inner.point_of.Given as goal
 
 abbrev pub invariant-loop-i : goal.invariant-loop-i

@@ -1,12 +1,8 @@
 -- `listing::inner::points_of` meets its contract: the points stored are the first of all. Assumes nothing.
-use mathlib.Core.Path.{◌≡◌}
-use mathlib.Core.List.{map}
-use Prim.Native.Nat.{◌+◌, ◌-◌, ◌*◌, ◌≤◌}
+use Prim.Native.Nat.{◌-◌}
 use native.Mathlib.Omega.{arith}
 use borrow.Author.Rules.{rules}
-use lib.ListN.{length, take, length-set}
-use Rattle.arrays.specs.Lists.{count_up}
-use Rattle.listing.specs.Listing.{point_of}
+use lib.ListN.{length-set}
 use Rattle.listing.proofs.Numbers.{none_stored, base_more, points-more, points-are}
 use Rattle.listing.proofs.inner.points_of.Goals as goal
 

@@ -2,12 +2,9 @@
 use mathlib.Core.Path.{◌≡◌}
 use mathlib.Core.List.{map}
 use Prim.Native.Nat.{◌+◌, ◌-◌, ◌*◌, ◌≤◌}
-use native.Mathlib.Omega.{arith}
-use borrow.Author.Rules.{rules}
-use lib.ListN.{length, take, length-set}
+use lib.ListN.{length, take}
 use Rattle.arrays.specs.Lists.{count_up}
 use Rattle.listing.specs.Listing.{point_of}
-use Rattle.listing.proofs.Numbers.{none_stored, base_more, points-more, points-are}
 use Rattle.listing.proofs.inner.points_of.Given as goal
 
 abbrev pub invariant-loop-k : goal.invariant-loop-k

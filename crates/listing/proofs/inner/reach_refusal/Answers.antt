@@ -1,6 +1,5 @@
 -- `listing::inner::reach_refusal` meets its contract: count, width and sizes pass the bank build's tests. Assumes nothing.
 use mathlib.Core.Path.{◌∙◌}
-use borrow.Author.Rules.{rules}
 use Rattle.listing.proofs.Refusing.{reach-is}
 use Rattle.listing.proofs.inner.reach_refusal.Goals as goal
 

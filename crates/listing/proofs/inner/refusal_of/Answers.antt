@@ -1,6 +1,5 @@
 -- `listing::inner::refusal_of` meets its contract: the conditions in the table's order. Assumes nothing.
 use mathlib.Core.Path.{sym, ◌∙◌}
-use borrow.Author.Rules.{rules}
 use borrow.Author.Tests.{lt-ltb, le-ltb}
 use Rattle.listing.proofs.Refusing.{number_1, number_2, number_3, number-last, in_range}
 use Rattle.listing.proofs.inner.refusal_of.Goals as goal

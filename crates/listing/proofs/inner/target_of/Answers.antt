@@ -1,10 +1,10 @@
 -- `listing::inner::target_of` meets its contract: the words stored are the first of the target. Assumes nothing.
 use mathlib.Core.Path.{◌≡◌, refl, ap}
-use Prim.Native.Nat.{ℕ, ◌+◌, ◌-◌, ◌*◌, ◌≤◌}
+use Prim.Native.Nat.{ℕ, ◌+◌, ◌-◌, ◌*◌}
 use native.Mathlib.Omega.{arith}
 use borrow.Author.Rules.{rules}
-use lib.ListN.{length, get_or, length-set}
-use Rattle.arrays.proofs.Fill.{Filled, filled_more}
+use lib.ListN.{length, length-set}
+use Rattle.arrays.proofs.Fill.{filled_more}
 use Rattle.listing.proofs.Numbers.{target_is}
 use Rattle.listing.proofs.inner.target_of.Goals as goal
 

@@ -1,11 +1,8 @@
 -- `listing::inner::target_of` meets its contract: the words stored are the first of the target. Assumes nothing.
-use mathlib.Core.Path.{◌≡◌, refl, ap}
+use mathlib.Core.Path.{◌≡◌}
 use Prim.Native.Nat.{ℕ, ◌+◌, ◌-◌, ◌*◌, ◌≤◌}
-use native.Mathlib.Omega.{arith}
-use borrow.Author.Rules.{rules}
-use lib.ListN.{length, get_or, length-set}
-use Rattle.arrays.proofs.Fill.{Filled, filled_more}
-use Rattle.listing.proofs.Numbers.{target_is}
+use lib.ListN.{length, get_or}
+use Rattle.arrays.proofs.Fill.{Filled}
 use Rattle.listing.proofs.inner.target_of.Given as goal
 
 abbrev pub invariant-loop-i : goal.invariant-loop-i

@@ -10,7 +10,6 @@ use Rattle.load_draw.specs.Draw.{Drawn}
 use Rattle.load_draw.proofs.Drawing.{rest-length, whole, drew}
 use Rattle.load_draw.proofs.Refusing.{ready_less}
 use native.Mathlib.Omega.{arith}
-use borrow.Author.Rules.{rules}
 use Rattle.load_draw.proofs.inner.draw.Goals as goal
 
 pub overflow_add-count : goal.overflow_add-count

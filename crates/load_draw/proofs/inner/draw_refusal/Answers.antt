@@ -1,7 +1,6 @@
 -- `load_draw::inner::draw_refusal` meets its contract: each test is that of its number. Assumes nothing.
 use mathlib.Core.Path.{sym, ◌∙◌}
 use Rattle.load_draw.proofs.Refusing.{refusal_1, refusal_2, refusal_6, refusal_4, refusal-none}
-use borrow.Author.Rules.{rules}
 use Rattle.load_draw.proofs.inner.draw_refusal.Goals as goal
 
 pub returns-then-bad_count : goal.returns-then-bad_count

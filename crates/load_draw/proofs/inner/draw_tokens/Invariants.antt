@@ -1,13 +1,8 @@
 -- `load_draw::inner::draw_tokens` meets its contract: token after token, from the left. Assumes nothing.
-use mathlib.Core.Path.{◌≡◌, refl, ap, ◌∙◌}
-use Prim.Native.Nat.{◌-◌, ◌≤◌, ◌<◌}
-use lib.ListN.{length, set, length-set}
-use Rattle.probe_points.specs.declared.Draw.{Draw}
-use Rattle.expr.specs.Formula.{operand_of}
-use Rattle.load_draw.specs.Draw.{drawn_word, takes, picked_by, token_from, state_from}
-use Rattle.load_draw.proofs.Drawing.{Stage, stage_start, stage_can, stage_below, stage_takes, stage_next, stage_state, stage_ops, stage_operands}
-use native.Mathlib.Omega.{arith}
-use borrow.Author.Rules.{rules}
+use mathlib.Core.Path.{◌≡◌}
+use Prim.Native.Nat.{◌-◌}
+use lib.ListN.{length}
+use Rattle.load_draw.proofs.Drawing.{Stage}
 use Rattle.load_draw.proofs.inner.draw_tokens.Given as goal
 
 abbrev pub invariant-loop-i : goal.invariant-loop-i

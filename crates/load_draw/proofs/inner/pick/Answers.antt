@@ -4,7 +4,6 @@ use Prim.Native.Nat.{ℕ}
 use Rattle.load_draw.specs.Draw.{picked_by}
 use Rattle.load_draw.proofs.Picking.{picked_run, choices-none, choices-all, choices-narrow, choices-gates}
 use native.Mathlib.Omega.{arith}
-use borrow.Author.Rules.{rules}
 use Rattle.load_draw.proofs.inner.pick.Goals as goal
 
 pub returns-then-depth-eq0 : goal.returns-then-depth-eq0

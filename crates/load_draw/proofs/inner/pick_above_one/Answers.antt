@@ -4,7 +4,6 @@ use Prim.Native.Nat.{ℕ}
 use Rattle.load_draw.specs.Draw.{picked_by}
 use Rattle.load_draw.proofs.Picking.{picked_run, picked_low, picked_high, choices-last}
 use native.Mathlib.Omega.{arith}
-use borrow.Author.Rules.{rules}
 use Rattle.load_draw.proofs.inner.pick_above_one.Goals as goal
 
 pub returns-then-rest-eq0 : goal.returns-then-rest-eq0

@@ -6,7 +6,6 @@ use Rattle.arith.proofs.Remainders.{modulus-is}
 use Rattle.probe_points.specs.declared.Draw.{Draw}
 use Rattle.load_draw.proofs.Drawing.{state-constant, state-variable, state_other, operand_constant, operand_variable, operand_other}
 use native.Mathlib.Omega.{arith}
-use borrow.Author.Rules.{rules}
 use Rattle.load_draw.proofs.inner.put_operand.Goals as goal
 
 pub returns-then-o-gt1 : goal.returns-then-o-gt1

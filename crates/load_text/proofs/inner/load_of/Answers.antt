@@ -2,7 +2,6 @@
 use lib.ListN.{get_or}
 use Rattle.load_text.proofs.Refusing.{fit}
 use native.Mathlib.Omega.{arith}
-use borrow.Author.Rules.{rules}
 use Rattle.load_text.proofs.inner.load_of.Goals as goal
 
 pub overflow_cast-result : goal.overflow_cast-result

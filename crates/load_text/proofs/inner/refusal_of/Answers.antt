@@ -2,7 +2,6 @@
 use mathlib.Core.Path.{sym, ◌∙◌}
 use lib.ListN.{get_or}
 use Rattle.load_text.proofs.Refusing.{number_1, number_2, number_6, number-none}
-use borrow.Author.Rules.{rules}
 use Rattle.load_text.proofs.inner.refusal_of.Goals as goal
 
 pub returns-then-outside : goal.returns-then-outside

@@ -7,7 +7,6 @@ use Rattle.load_draw.specs.Draw.{formula_from}
 use Rattle.load_draw.proofs.Drawing.{form-most}
 use Rattle.load_text.proofs.Lines.{line-is}
 use native.Mathlib.Omega.{arith}
-use borrow.Author.Rules.{rules}
 use Rattle.load_text.proofs.inner.write_line.Goals as goal
 
 pub print_formula-next-requires : goal.print_formula-next-requires

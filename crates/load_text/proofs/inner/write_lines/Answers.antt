@@ -1,9 +1,6 @@
 -- `load_text::inner::write_lines` meets its contract: line after line. Assumes nothing.
-use mathlib.Core.Path.{◌≡◌, refl}
-use Prim.Native.Nat.{◌+◌}
-use lib.ListN.{length}
-use Rattle.load_text.specs.Writing.{line_max}
-use Rattle.load_text.proofs.Lines.{Going, going_start, going_next, going_done, going_full}
+use mathlib.Core.Path.{refl}
+use Rattle.load_text.proofs.Lines.{going_start, going_next, going_done, going_full}
 use native.Mathlib.Omega.{arith}
 use borrow.Author.Rules.{rules}
 use Rattle.load_text.proofs.inner.write_lines.Goals as goal
@@ -19,12 +16,11 @@ pub write_line-x-requires : goal.write_line-x-requires
 write_line-x-requires c = let l = c.loop-p in (omega (arith, l.invariant.0, l.invariant.2.long), l.invariant.2.ready)
 
 pub loop-p-preserved : goal.loop-p-preserved
-loop-p-preserved c = let l = c.loop-p in let a = c.args in
-    (
-      l.invariant.0,
-      search rules,
-      going_next a.load a.out.now l.out l.ops l.operands l.state l.left l.p l.invariant.2 _ _ _ _ c.write_line-x.result.next (omega (arith, l.invariant.0)) (omega (arith, c.if-left-eq0.false)) c.write_line-x.ensures.wrote c.write_line-x.ensures.next_bound.0 c.write_line-x.ensures.next_bound.1 (search rules),
-    )
+loop-p-preserved c = let l = c.loop-p in let a = c.args in (
+  l.invariant.0,
+  search rules,
+  going_next a.load a.out.now l.out l.ops l.operands l.state l.left l.p l.invariant.2 _ _ _ _ c.write_line-x.result.next (omega (arith, l.invariant.0)) (omega (arith, c.if-left-eq0.false)) c.write_line-x.ensures.wrote c.write_line-x.ensures.next_bound.0 c.write_line-x.ensures.next_bound.1 (search rules),
+)
 
 pub returns : goal.returns
 returns c = let l = c.loop-p in let a = c.args in

@@ -1,11 +1,9 @@
 -- `load_text::inner::write_lines` meets its contract: line after line. Assumes nothing.
-use mathlib.Core.Path.{◌≡◌, refl}
+use mathlib.Core.Path.{◌≡◌}
 use Prim.Native.Nat.{◌+◌}
 use lib.ListN.{length}
 use Rattle.load_text.specs.Writing.{line_max}
-use Rattle.load_text.proofs.Lines.{Going, going_start, going_next, going_done, going_full}
-use native.Mathlib.Omega.{arith}
-use borrow.Author.Rules.{rules}
+use Rattle.load_text.proofs.Lines.{Going}
 use Rattle.load_text.proofs.inner.write_lines.Given as goal
 
 abbrev pub invariant-loop-p : goal.invariant-loop-p

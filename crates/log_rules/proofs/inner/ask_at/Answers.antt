@@ -1,7 +1,6 @@
 -- `log_rules::inner::ask_at` meets its contract: a rule has 64 places of each array. Assumes nothing.
 use mathlib.Core.Path.{sym, ◌∙◌}
 use Rattle.log_rules.proofs.Asking.{at-number, at-state, at-answer}
-use borrow.Author.Rules.{rules}
 use native.Mathlib.Omega.{arith}
 use Rattle.log_rules.proofs.inner.ask_at.Goals as goal
 

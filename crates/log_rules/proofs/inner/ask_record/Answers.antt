@@ -1,7 +1,6 @@
 -- `log_rules::inner::ask_record` meets its contract: more than 64 tokens are 6, else the rule's own promise. Assumes nothing.
 use mathlib.Core.Path.{sym, ap, ◌∙◌}
 use mathlib.Core.List.{[], ◌∷◌}
-use borrow.Author.Rules.{rules}
 use borrow.Author.Tests.{lt-ltb, le-ltb}
 use Rattle.rule_run.specs.Steps.{record_answer}
 use Rattle.log_rules.proofs.Asking.{either_by}

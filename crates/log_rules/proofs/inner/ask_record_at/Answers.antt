@@ -2,7 +2,6 @@
 use mathlib.Core.Path.{refl, sym, ap, ◌∙◌}
 use mathlib.Core.List.{[], ◌∷◌}
 use native.Mathlib.Omega.{arith}
-use borrow.Author.Rules.{rules}
 use lib.Dec.{eqb}
 use Rattle.rule_run.specs.declared.inner.RecordAnswer.{RecordAnswer}
 use Rattle.log_rules.proofs.Asking.{at-number, at-state, at-answer}

@@ -1,7 +1,7 @@
 -- `log_rules::inner::bad_ranks` meets its contract: place after place. Assumes nothing.
-use mathlib.Core.Path.{◌≡◌, sym, ◌∙◌}
-use mathlib.Core.Bool.{false, ◌||◌}
-use Prim.Native.Nat.{ℕ, ◌-◌, ◌≤◌, ◌<◌}
+use mathlib.Core.Path.{sym, ◌∙◌}
+use mathlib.Core.Bool.{◌||◌}
+use Prim.Native.Nat.{ℕ, ◌-◌}
 use lib.ListN.{get_or}
 use Rattle.limits.specs.Refusal.{outside_of}
 use Rattle.limits.proofs.Refusals.{or_here, or_later, or_right}

@@ -1,14 +1,10 @@
 -- `log_rules::inner::bad_ranks` meets its contract: place after place. Assumes nothing.
-use mathlib.Core.Path.{◌≡◌, sym, ◌∙◌}
+use mathlib.Core.Path.{◌≡◌}
 use mathlib.Core.Bool.{false, ◌||◌}
 use Prim.Native.Nat.{ℕ, ◌-◌, ◌≤◌, ◌<◌}
 use lib.ListN.{get_or}
 use Rattle.limits.specs.Refusal.{outside_of}
-use Rattle.limits.proofs.Refusals.{or_here, or_later, or_right}
 use Rattle.log_rules.specs.Rules.{same_rank}
-use Rattle.log_rules.proofs.Tests.{ranks_outside, ranks-at, ranks_good, below_more}
-use borrow.Author.Rules.{rules}
-use native.Mathlib.Omega.{arith}
 use Rattle.log_rules.proofs.inner.bad_ranks.Given as goal
 
 abbrev pub invariant-loop-i : goal.invariant-loop-i

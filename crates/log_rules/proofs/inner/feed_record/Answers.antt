@@ -2,17 +2,17 @@
 use mathlib.Core.Path.{◌≡◌, refl, ◌∙◌}
 use mathlib.Core.Bool.{cond}
 use mathlib.Core.List.{[], ◌∷◌}
-use Prim.Native.Nat.{ℕ, ◌-◌, ◌≤◌}
+use Prim.Native.Nat.{ℕ, ◌-◌}
 use native.Mathlib.Omega.{arith}
 use borrow.Author.Rules.{rules}
 use lib.Dec.{eqb}
-use lib.ListN.{length, get_or, length-set}
+use lib.ListN.{get_or, length-set}
 use Rattle.arrays.proofs.Lists.{first_alone}
 use Rattle.arrays.proofs.Parts.{part_within}
 use Rattle.log_rules.specs.Rules.{rules_in, rule_at}
 use Rattle.log_rules.specs.Firing.{no_rank, lesser}
 use Rattle.log_rules.specs.Steps.{fires_on}
-use Rattle.log_rules.proofs.Feeding.{Went, went_none, went-more, went_at, went_windows}
+use Rattle.log_rules.proofs.Feeding.{went_none, went-more, went_at, went_windows}
 use Rattle.log_rules.proofs.inner.feed_record.Goals as goal
 
 pub loop-i-init : goal.loop-i-init

@@ -1,10 +1,10 @@
 -- `log_rules::inner::feed_rules` meets its contract: rule after rule. Assumes nothing.
 use mathlib.Core.Path.{◌≡◌, refl, ◌∙◌}
-use Prim.Native.Nat.{◌-◌, ◌≤◌}
-use lib.ListN.{length, length-set}
+use Prim.Native.Nat.{◌-◌}
+use lib.ListN.{length-set}
 use Rattle.arrays.proofs.Parts.{part_within}
 use Rattle.log_rules.specs.Rules.{rules_in}
-use Rattle.log_rules.proofs.Feeding.{Went, went_none, went-more, went_at, went_windows}
+use Rattle.log_rules.proofs.Feeding.{went_none, went-more, went_at, went_windows}
 use borrow.Author.Rules.{rules}
 use native.Mathlib.Omega.{arith}
 use Rattle.log_rules.proofs.inner.feed_rules.Goals as goal
@@ -60,8 +60,7 @@ overflow_add-i c = omega (arith, c.requires.lends.1.0.few, c.loop-i-test.true)
 pub loop-i-preserved : goal.loop-i-preserved
 loop-i-preserved c = let a = c.args in
     let l = c.loop-i in
-    let h = c.loop-i-test.true in
-    (
+    let h = c.loop-i-test.true in (
       omega (arith, h),
       (
         omega (arith, c.ask_at-x.auto.answers, l.invariant.1.0),

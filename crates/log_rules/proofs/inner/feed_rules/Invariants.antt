@@ -1,12 +1,9 @@
 -- `log_rules::inner::feed_rules` meets its contract: rule after rule. Assumes nothing.
-use mathlib.Core.Path.{◌≡◌, refl, ◌∙◌}
+use mathlib.Core.Path.{◌≡◌}
 use Prim.Native.Nat.{◌-◌, ◌≤◌}
-use lib.ListN.{length, length-set}
-use Rattle.arrays.proofs.Parts.{part_within}
+use lib.ListN.{length}
 use Rattle.log_rules.specs.Rules.{rules_in}
-use Rattle.log_rules.proofs.Feeding.{Went, went_none, went-more, went_at, went_windows}
-use borrow.Author.Rules.{rules}
-use native.Mathlib.Omega.{arith}
+use Rattle.log_rules.proofs.Feeding.{Went}
 use Rattle.log_rules.proofs.inner.feed_rules.Given as goal
 
 abbrev pub invariant-loop-i : goal.invariant-loop-i

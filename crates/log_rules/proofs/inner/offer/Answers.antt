@@ -1,10 +1,10 @@
 -- `log_rules::inner::offer` meets its contract: place after place. Assumes nothing.
-use Prim.Native.Nat.{ℕ, ◌-◌, ◌≤◌}
+use Prim.Native.Nat.{ℕ, ◌-◌}
 use mathlib.Core.Bool.{cond}
 use lib.Dec.{eqb}
 use lib.ListN.{get_or}
 use Rattle.log_rules.specs.Firing.{lesser}
-use Rattle.log_rules.proofs.Feeding.{Mapped, mapped_start, mapped_more}
+use Rattle.log_rules.proofs.Feeding.{mapped_start, mapped_more}
 use borrow.Author.Rules.{rules}
 use Rattle.log_rules.proofs.inner.offer.Goals as goal
 

@@ -4,8 +4,7 @@ use mathlib.Core.Bool.{cond}
 use lib.Dec.{eqb}
 use lib.ListN.{get_or}
 use Rattle.log_rules.specs.Firing.{lesser}
-use Rattle.log_rules.proofs.Feeding.{Mapped, mapped_start, mapped_more}
-use borrow.Author.Rules.{rules}
+use Rattle.log_rules.proofs.Feeding.{Mapped}
 use Rattle.log_rules.proofs.inner.offer.Given as goal
 
 abbrev pub invariant-loop-k : goal.invariant-loop-k

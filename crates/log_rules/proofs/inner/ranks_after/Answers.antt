@@ -5,7 +5,6 @@ use borrow.Author.Tests.{eq-eqb, ne_eqb}
 use Rattle.limits.specs.Refusal.{refuse}
 use Rattle.limits.proofs.Refusals.{refused_here, refused-later}
 use Rattle.log_rules.specs.Rules.{bad_ranks}
-use borrow.Author.Rules.{rules}
 use Rattle.log_rules.proofs.inner.ranks_after.Goals as goal
 
 pub returns-then-number-ne0 : goal.returns-then-number-ne0

@@ -1,7 +1,6 @@
 -- `log_rules::inner::rules_refusal` meets its contract: rule after rule. Assumes nothing.
-use mathlib.Core.Path.{◌≡◌, refl, ap, ◌∙◌}
-use Prim.Native.Nat.{◌-◌, ◌≤◌}
-use lib.ListN.{length}
+use mathlib.Core.Path.{refl, ap, ◌∙◌}
+use Prim.Native.Nat.{◌-◌}
 use Rattle.arrays.proofs.Parts.{part_within}
 use Rattle.log_rules.specs.Rules.{rules_in}
 use Rattle.log_rules.specs.Steps.{formulas_refusal}

@@ -1,13 +1,9 @@
 -- `log_rules::inner::rules_refusal` meets its contract: rule after rule. Assumes nothing.
-use mathlib.Core.Path.{◌≡◌, refl, ap, ◌∙◌}
+use mathlib.Core.Path.{◌≡◌}
 use Prim.Native.Nat.{◌-◌, ◌≤◌}
 use lib.ListN.{length}
-use Rattle.arrays.proofs.Parts.{part_within}
 use Rattle.log_rules.specs.Rules.{rules_in}
 use Rattle.log_rules.specs.Steps.{formulas_refusal}
-use Rattle.log_rules.proofs.Tests.{numbers_none, numbers_more, numbers_ranks}
-use borrow.Author.Rules.{rules}
-use native.Mathlib.Omega.{arith}
 use Rattle.log_rules.proofs.inner.rules_refusal.Given as goal
 
 abbrev pub invariant-loop-i : goal.invariant-loop-i

@@ -1,13 +1,9 @@
 -- `log_rules::inner::same_rank` meets its contract: no earlier place so far has the rank. Assumes nothing.
-use mathlib.Core.Path.{◌≡◌, sym, ◌∙◌}
+use mathlib.Core.Path.{◌≡◌}
 use mathlib.Core.Bool.{false}
 use Prim.Native.Nat.{ℕ, ◌-◌, ◌≤◌, ◌<◌}
-use borrow.Author.Tests.{eq-eqb, ne_eqb}
 use lib.Dec.{eqb}
 use lib.ListN.{get_or}
-use Rattle.log_rules.proofs.Tests.{any_at, any_none, below_more}
-use borrow.Author.Rules.{rules}
-use native.Mathlib.Omega.{arith}
 use Rattle.log_rules.proofs.inner.same_rank.Given as goal
 
 abbrev pub invariant-loop-j : goal.invariant-loop-j

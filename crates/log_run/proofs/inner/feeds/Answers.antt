@@ -3,7 +3,6 @@ use mathlib.Core.Bool.{not, ◌&&◌}
 use lib.Dec.{ltb}
 use Rattle.log_rules.specs.Rules.{bad_ranks}
 use Rattle.log_run.proofs.Stepping.{feeds_shut, feeds_none, feeds_ranks}
-use borrow.Author.Rules.{rules}
 use mathlib.Core.Path.{ap}
 use Rattle.log_run.proofs.inner.feeds.Goals as goal
 

@@ -1,6 +1,5 @@
 -- `log_run::inner::note` meets its contract. Assumes nothing.
 use Rattle.log_run.proofs.Stepping.{noted-none, noted_close, noted-later}
-use borrow.Author.Rules.{rules}
 use Rattle.log_run.proofs.inner.note.Goals as goal
 
 pub returns-then-rank-ge-NO_RANK : goal.returns-then-rank-ge-NO_RANK

@@ -1,6 +1,6 @@
 -- `log_run::inner::note_all` meets its contract: record after record. Assumes nothing.
-use mathlib.Core.Path.{◌≡◌, ap, ◌∙◌}
-use Prim.Native.Nat.{ℕ, ◌-◌, ◌≤◌}
+use mathlib.Core.Path.{ap, ◌∙◌}
+use Prim.Native.Nat.{ℕ, ◌-◌}
 use lib.ListN.{get_or}
 use Rattle.log_run.specs.Step.{noted}
 use Rattle.log_run.specs.Steps.{noted_over}

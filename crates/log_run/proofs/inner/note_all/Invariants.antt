@@ -1,11 +1,8 @@
 -- `log_run::inner::note_all` meets its contract: record after record. Assumes nothing.
-use mathlib.Core.Path.{◌≡◌, ap, ◌∙◌}
+use mathlib.Core.Path.{◌≡◌}
 use Prim.Native.Nat.{ℕ, ◌-◌, ◌≤◌}
 use lib.ListN.{get_or}
-use Rattle.log_run.specs.Step.{noted}
 use Rattle.log_run.specs.Steps.{noted_over}
-use Rattle.log_run.proofs.Stepping.{noted-start, noted_more}
-use borrow.Author.Rules.{rules}
 use Rattle.log_run.proofs.inner.note_all.Given as goal
 
 abbrev pub invariant-loop-k : goal.invariant-loop-k

@@ -1,7 +1,6 @@
 -- `log_run::inner::run` meets its contract: a record by itself, others in parts. Assumes nothing.
 use mathlib.Core.Path.{sym, subst}
 use Prim.Native.Nat.{ℕ}
-use borrow.Author.Rules.{rules}
 use Rattle.log_rules.specs.Rules.{rules_in}
 use Rattle.log_rules.specs.Steps.{Lends}
 use Rattle.log_run.specs.Steps.{Takes}

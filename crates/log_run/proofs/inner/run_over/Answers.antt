@@ -3,15 +3,14 @@ use mathlib.Core.Path.{refl, ◌∙◌}
 use Rattle.log_rules.specs.Rules.{rules_in}
 use Rattle.log_run.specs.Steps.{open_log}
 use Rattle.log_run.proofs.Stepping.{after_is}
-use borrow.Author.Rules.{rules}
 use native.Mathlib.Omega.{arith}
 use Rattle.log_run.proofs.inner.run_over.Goals as goal
 
 pub feed_rules-refusal-requires : goal.feed_rules-refusal-requires
 feed_rules-refusal-requires c = record {
-      lends = c.requires.lends;
-      n_in_bounds = c.requires.le_n.1;
-    }
+  lends = c.requires.lends;
+  n_in_bounds = c.requires.le_n.1;
+}
 
 pub note_all-after-requires : goal.note_all-after-requires
 note_all-after-requires c = omega (arith, c.requires.le_n.1.1.0, c.feed_rules-refusal.auto.fired)

@@ -2,10 +2,9 @@
 use Rattle.arrays.proofs.Parts.{part_from}
 use mathlib.Core.Path.{◌≡◌, refl, sym, ap, ◌∙◌}
 use mathlib.Core.List.{List}
-use Prim.Native.Nat.{ℕ, ◌+◌, ◌-◌, ◌*◌, ◌≤◌, ◌<◌}
+use Prim.Native.Nat.{ℕ, ◌+◌, ◌-◌, ◌*◌, ◌≤◌}
 use lib.ListN.{length, take, drop}
 use Rattle.log_rules.specs.Rules.{rules_in}
-use Rattle.log_rules.specs.Steps.{formulas_refusal}
 use Rattle.log_run.specs.declared.Log.{Log}
 use Rattle.log_run.specs.Step.{log_after}
 use Rattle.log_run.specs.Steps.{open_log}

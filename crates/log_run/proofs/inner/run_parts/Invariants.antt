@@ -1,17 +1,11 @@
 -- `log_run::inner::run_parts` meets its contract: part after part. Assumes nothing.
-use Rattle.arrays.proofs.Parts.{part_from}
-use mathlib.Core.Path.{◌≡◌, refl, sym, ap, ◌∙◌}
-use mathlib.Core.List.{List}
-use Prim.Native.Nat.{ℕ, ◌+◌, ◌-◌, ◌*◌, ◌≤◌, ◌<◌}
-use lib.ListN.{length, take, drop}
+use mathlib.Core.Path.{◌≡◌}
+use Prim.Native.Nat.{◌-◌, ◌≤◌, ◌<◌}
+use lib.ListN.{length}
 use Rattle.log_rules.specs.Rules.{rules_in}
 use Rattle.log_rules.specs.Steps.{formulas_refusal}
-use Rattle.log_run.specs.declared.Log.{Log}
 use Rattle.log_run.specs.Step.{log_after}
 use Rattle.log_run.specs.Steps.{open_log}
-use Rattle.log_run.proofs.Stepping.{after_none, after-joined, fits_part, lends_part}
-use borrow.Author.Rules.{rules}
-use native.Mathlib.Omega.{arith}
 use Rattle.log_run.proofs.inner.run_parts.Given as goal
 
 abbrev pub invariant-loop-at : goal.invariant-loop-at

@@ -1,6 +1,5 @@
 -- `log_run::inner::take` meets its contract: what is lent, then the rules and the records. Assumes nothing.
 use mathlib.Core.Path.{sym, ◌∙◌}
-use borrow.Author.Rules.{rules}
 use borrow.Author.Tests.{ltb-true, not-true}
 use lib.Dec.{ltb}
 use Rattle.limits.proofs.Refusals.{and_left, and_right}

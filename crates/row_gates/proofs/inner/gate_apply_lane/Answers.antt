@@ -1,7 +1,6 @@
 -- `row_gates::inner::gate_apply_lane` meets its contract, gate by gate. Assumes nothing.
 use mathlib.Core.Path.{◌≡◌, sym, ap, ◌∙◌}
 use Prim.Native.Nat.{ℕ, ◌+◌, ◌-◌, ◌*◌, ◌%◌, ◌^◌, ◌≤◌}
-use borrow.Author.Rules.{rules}
 use lib.Bits.{bit_and, bit_or, bit_xor, and_mask}
 use Rattle.arith.specs.Word.{modulus}
 use Rattle.arith.proofs.Remainders.{modulus-is}

@@ -1,6 +1,5 @@
 -- `row_gates::inner::gate_at` meets its contract, number by number. Assumes nothing.
 use Rattle.row_gates.proofs.GateLaws.{gate-last}
-use borrow.Author.Rules.{rules}
 use Rattle.row_gates.proofs.inner.gate_at.Goals as goal
 
 pub returns-in_default : goal.returns-in_default

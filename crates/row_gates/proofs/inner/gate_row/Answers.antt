@@ -1,10 +1,10 @@
 -- `row_gates::inner::gate_row` meets its contract: the places passed hold what `gate_of` gives there. Assumes nothing.
-use mathlib.Core.Path.{◌≡◌, refl}
-use Prim.Native.Nat.{ℕ, ◌-◌, ◌≤◌}
+use mathlib.Core.Path.{refl}
+use Prim.Native.Nat.{◌-◌}
 use native.Mathlib.Omega.{arith}
 use borrow.Author.Rules.{rules}
-use lib.ListN.{length, get_or, length-set}
-use Rattle.arrays.proofs.Fill.{Filled, filled_more, zipped}
+use lib.ListN.{length-set}
+use Rattle.arrays.proofs.Fill.{filled_more, zipped}
 use Rattle.row_gates.specs.Gates.{gate_of, gate_row}
 use Rattle.row_gates.proofs.inner.gate_row.Goals as goal
 

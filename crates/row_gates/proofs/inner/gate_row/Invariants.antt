@@ -1,11 +1,9 @@
 -- `row_gates::inner::gate_row` meets its contract: the places passed hold what `gate_of` gives there. Assumes nothing.
-use mathlib.Core.Path.{◌≡◌, refl}
+use mathlib.Core.Path.{◌≡◌}
 use Prim.Native.Nat.{ℕ, ◌-◌, ◌≤◌}
-use native.Mathlib.Omega.{arith}
-use borrow.Author.Rules.{rules}
-use lib.ListN.{length, get_or, length-set}
-use Rattle.arrays.proofs.Fill.{Filled, filled_more, zipped}
-use Rattle.row_gates.specs.Gates.{gate_of, gate_row}
+use lib.ListN.{length, get_or}
+use Rattle.arrays.proofs.Fill.{Filled}
+use Rattle.row_gates.specs.Gates.{gate_of}
 use Rattle.row_gates.proofs.inner.gate_row.Given as goal
 
 abbrev pub invariant-loop-i : goal.invariant-loop-i

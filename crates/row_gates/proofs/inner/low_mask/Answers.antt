@@ -1,9 +1,8 @@
 -- `row_gates::inner::low_mask` meets its contract: 64 ones shifted down by 64 - w are w ones. Assumes nothing.
 use mathlib.Core.Path.{◌≡◌, sym, ap, ◌∙◌}
-use Prim.Native.Nat.{ℕ, ◌+◌, ◌-◌, ◌*◌, ◌/◌, ◌^◌, ◌≤◌, ◌<◌}
+use Prim.Native.Nat.{ℕ, ◌+◌, ◌-◌, ◌*◌, ◌/◌, ◌^◌}
 use native.Mathlib.Nat.{suc-mul}
 use native.Mathlib.Omega.{arith}
-use borrow.Author.Rules.{rules}
 use lib.Arith.{digits_div}
 use lib.Pow.{pow_pos, pow-add, suc_ones}
 use Rattle.row_gates.proofs.inner.low_mask.Goals as goal

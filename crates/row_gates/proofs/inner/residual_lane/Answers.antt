@@ -1,7 +1,6 @@
 -- `row_gates::inner::residual_lane` meets its contract, gate by gate. Assumes nothing.
 use mathlib.Core.Path.{sym, ap, ◌∙◌}
 use Prim.Native.Nat.{ℕ, ◌%◌}
-use borrow.Author.Rules.{rules}
 use lib.Bits.{bit_xor}
 use Rattle.arith.specs.Word.{sub_of}
 use Rattle.arith.proofs.Remainders.{modulus-is}

@@ -1,11 +1,9 @@
 -- `row_gates::inner::residual_row` meets its contract: the places passed hold what `residual_of` gives there. Assumes nothing.
-use mathlib.Core.Path.{◌≡◌, refl}
+use mathlib.Core.Path.{◌≡◌}
 use Prim.Native.Nat.{ℕ, ◌-◌, ◌≤◌}
-use native.Mathlib.Omega.{arith}
-use borrow.Author.Rules.{rules}
-use lib.ListN.{length, get_or, length-set}
-use Rattle.arrays.proofs.Fill.{Filled, filled_more, zipped}
-use Rattle.row_gates.specs.Gates.{residual_of, residual_row}
+use lib.ListN.{length, get_or}
+use Rattle.arrays.proofs.Fill.{Filled}
+use Rattle.row_gates.specs.Gates.{residual_of}
 use Rattle.row_gates.proofs.inner.residual_row.Given as goal
 
 abbrev pub invariant-loop-i : goal.invariant-loop-i

@@ -1,13 +1,13 @@
 -- `row_gates::inner::row_matches` meets its contract: the places passed hold the target's words. Assumes nothing.
-use mathlib.Core.Path.{◌≡◌, sym, ap, ◌∙◌}
+use mathlib.Core.Path.{sym, ap, ◌∙◌}
 use mathlib.Core.List.{List}
-use Prim.Native.Nat.{ℕ, ◌-◌, ◌≤◌, ◌<◌}
+use Prim.Native.Nat.{ℕ, ◌-◌}
 use native.Mathlib.Omega.{arith}
 use borrow.Author.Count.{below_more}
 use borrow.Author.Rules.{rules}
 use lib.ListN.{get_or}
 use lib.Seq.{ext_get_or}
-use Rattle.row_gates.specs.Gates.{gate_of, gate_row}
+use Rattle.row_gates.specs.Gates.{gate_row}
 use Rattle.row_gates.proofs.Rows.{length-gate_row, get_or-gate_row, same-row_of, same-row-not}
 use Rattle.row_gates.proofs.inner.row_matches.Goals as goal
 

@@ -1,6 +1,5 @@
 -- `row_lent::inner::load_row` meets its contract: the part that is copied is the slot's row. Assumes nothing.
 use mathlib.Core.Path.{◌∙◌}
-use borrow.Author.Rules.{rules}
 use Rattle.arrays.proofs.Parts.{part_is}
 use Rattle.row_lent.proofs.inner.load_row.Goals as goal
 

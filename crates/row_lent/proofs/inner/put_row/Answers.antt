@@ -1,6 +1,5 @@
 -- `row_lent::inner::put_row` meets its contract: the row's own sixteen words are lent. Assumes nothing.
 use mathlib.Core.Path.{ap, ◌∙◌}
-use borrow.Author.Rules.{rules}
 use Rattle.arrays.specs.Parts.{put_part}
 use Rattle.arrays.proofs.Parts.{put_is}
 use Rattle.row_lent.proofs.inner.put_row.Goals as goal

@@ -1,11 +1,8 @@
 -- `row_lent::inner::row_reaches` meets its contract: the words passed are below 2 ^ w. Assumes nothing.
-use mathlib.Core.Path.{◌≡◌, refl, sym, ◌∙◌}
-use Prim.Native.Nat.{◌-◌, ◌^◌, ◌≤◌}
+use mathlib.Core.Path.{refl, sym, ◌∙◌}
+use Prim.Native.Nat.{◌-◌, ◌^◌}
 use native.Mathlib.Omega.{arith}
 use borrow.Author.Rules.{rules}
-use lib.ListN.{drop}
-use Rattle.arith.specs.Word.{modulus}
-use Rattle.row_lent.specs.Range.{reaches}
 use Rattle.arith.proofs.Remainders.{mask_lt, mask_le}
 use Rattle.row_lent.proofs.Reaching.{reaches_here, reaches-later, reaches-none}
 use Rattle.row_lent.proofs.inner.row_reaches.Goals as goal

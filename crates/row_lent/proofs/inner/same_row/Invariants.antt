@@ -1,15 +1,7 @@
 -- `row_lent::inner::same_row` meets its contract: the places passed hold the words of the row. Assumes nothing.
-use mathlib.Core.Path.{◌≡◌, sym, ap, ◌∙◌}
-use mathlib.Core.List.{List}
+use mathlib.Core.Path.{◌≡◌}
 use Prim.Native.Nat.{ℕ, ◌+◌, ◌-◌, ◌≤◌, ◌<◌}
-use native.Mathlib.Omega.{arith}
-use borrow.Author.Count.{below_more}
-use borrow.Author.Rules.{rules}
-use lib.ListN.{length, get_or}
-use lib.Seq.{ext_get_or}
-use Rattle.arrays.specs.Parts.{part_at}
-use Rattle.arrays.proofs.Parts.{length-part, get_d_part}
-use Rattle.row_gates.proofs.Rows.{same-row_of, same-row-not}
+use lib.ListN.{get_or}
 use Rattle.row_lent.proofs.inner.same_row.Given as goal
 
 abbrev pub invariant-loop-word : goal.invariant-loop-word

@@ -1,11 +1,9 @@
 -- `row_map::inner::clear` meets its contract: the heads passed are 0, and the rest is as it was. Assumes nothing.
 use mathlib.Core.Path.{◌≡◌, refl}
-use mathlib.Core.List.{◌++◌}
-use Prim.Native.Nat.{◌-◌, ◌^◌, ◌≤◌, ◌<◌}
+use Prim.Native.Nat.{◌-◌, ◌^◌, ◌<◌}
 use native.Mathlib.Omega.{arith}
 use borrow.Author.Fill.{fill_none, fill_more}
-use borrow.Author.Rules.{rules}
-use lib.ListN.{length, drop, replicate, length-set}
+use lib.ListN.{length, length-set}
 use Rattle.row_map.specs.Map.{cleared}
 use Rattle.row_map.proofs.inner.clear.Goals as goal
 

@@ -2,13 +2,12 @@
 use mathlib.Core.Path.{◌≡◌, sym, ap, ◌∙◌, subst}
 use Prim.Native.Nat.{ℕ, ◌+◌, ◌-◌, ◌%◌, ◌^◌}
 use native.Mathlib.Omega.{arith}
-use borrow.Author.Rules.{rules}
 use lib.ListN.{get_or}
 use Rattle.arrays.specs.Parts.{part_at}
 use Rattle.limits.proofs.Refusals.{true_not_false}
 use Rattle.row_gates.proofs.Rows.{same-row_eq, same-row_of}
 use Rattle.row_map.specs.Map.{home_of, homes_of, Top}
-use Rattle.row_map.proofs.Walks.{Walk, walk_start, walk_on}
+use Rattle.row_map.proofs.Walks.{walk_start, walk_on}
 use Rattle.row_map.proofs.inner.find_by.Goals as goal
 
 pub loop-entry-init : goal.loop-entry-init

@@ -1,14 +1,9 @@
 -- `row_map::inner::find_by` meets its contract: no slot from the entry on has the row, and links fall, so that the walk ends. Assumes nothing.
-use mathlib.Core.Path.{◌≡◌, sym, ap, ◌∙◌, subst}
-use Prim.Native.Nat.{ℕ, ◌+◌, ◌-◌, ◌%◌, ◌^◌}
-use native.Mathlib.Omega.{arith}
-use borrow.Author.Rules.{rules}
-use lib.ListN.{get_or}
+use mathlib.Core.Path.{◌≡◌}
+use Prim.Native.Nat.{ℕ, ◌-◌}
 use Rattle.arrays.specs.Parts.{part_at}
-use Rattle.limits.proofs.Refusals.{true_not_false}
-use Rattle.row_gates.proofs.Rows.{same-row_eq, same-row_of}
-use Rattle.row_map.specs.Map.{home_of, homes_of, Top}
-use Rattle.row_map.proofs.Walks.{Walk, walk_start, walk_on}
+use Rattle.row_map.specs.Map.{home_of, homes_of}
+use Rattle.row_map.proofs.Walks.{Walk}
 use Rattle.row_map.proofs.inner.find_by.Given as goal
 
 abbrev pub invariant-loop-entry : goal.invariant-loop-entry

@@ -1,6 +1,5 @@
 -- `row_map::inner::heads` meets its contract: the shift loses nothing. Assumes nothing.
 use native.Mathlib.Omega.{arith}
-use borrow.Author.Rules.{rules}
 use Rattle.arith.proofs.Remainders.{shl_one}
 use Rattle.row_map.proofs.inner.heads.Goals as goal
 

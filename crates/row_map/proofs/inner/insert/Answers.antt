@@ -1,6 +1,5 @@
 -- `row_map::inner::insert` meets its contract: the link takes the old head, and the head takes slot n. Assumes nothing.
 use native.Mathlib.Omega.{arith}
-use borrow.Author.Rules.{rules}
 use lib.ListN.{length-set}
 use Rattle.row_map.proofs.MapLaws.{chained_more}
 use Rattle.row_map.proofs.inner.insert.Goals as goal

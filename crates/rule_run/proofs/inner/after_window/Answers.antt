@@ -1,5 +1,5 @@
 -- `rule_run::inner::after_window` meets its contract: a number stays, and 10 comes after it. Assumes nothing.
-use Rattle.std.proofs.Common.{ℕ, sym, refl, ap, ◌∙◌, rules}
+use Rattle.std.proofs.Common.{ℕ, sym, refl, ap, ◌∙◌}
 use Rattle.limits.specs.Refusal.{refuse, outcome}
 use Rattle.limits.proofs.Refusals.{refused_here, refused-later, outcome-word}
 use Rattle.expr_eval.specs.Answers.{value_says}

@@ -1,5 +1,5 @@
 -- `rule_run::inner::answer_of` meets its contract. Assumes nothing.
-use Rattle.std.proofs.Common.{Bool, cond, sym, ap, ◌∙◌, rules}
+use Rattle.std.proofs.Common.{Bool, cond, sym, ap, ◌∙◌}
 use Rattle.rule_run.proofs.inner.answer_of.Goals as goal
 
 pub returns-then-reaches : goal.returns-then-reaches

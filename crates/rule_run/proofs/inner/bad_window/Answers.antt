@@ -1,5 +1,5 @@
 -- `rule_run::inner::bad_window` meets its contract. Assumes nothing.
-use Rattle.std.proofs.Common.{sym, ◌∙◌, rules}
+use Rattle.std.proofs.Common.{sym, ◌∙◌}
 use Rattle.limits.proofs.Refusals.{or_here, or_later}
 use Rattle.rule_run.proofs.inner.bad_window.Goals as goal
 

@@ -1,5 +1,5 @@
 -- `rule_run::inner::count_of` meets its contract: the ones among the lowest W - 1 bits, and the mark. Assumes nothing.
-use Rattle.std.proofs.Common.{◌≡◌, ℕ, ◌+◌, ◌-◌, ◌%◌, ◌^◌, ◌≤◌, sym, ap, ◌∙◌, subst, arith, rules}
+use Rattle.std.proofs.Common.{◌≡◌, ℕ, ◌+◌, ◌-◌, ◌%◌, ◌^◌, ◌≤◌, sym, ap, ◌∙◌, subst, arith}
 use lib.Count.{ones}
 use Rattle.arith.proofs.Remainders.{modulus-is}
 use Rattle.rule_run.proofs.Counting.{ones_sum, ones_few}

@@ -1,5 +1,5 @@
 -- `rule_run::inner::feed_record` meets its contract: it feeds one record over an array of one place. Assumes nothing.
-use Rattle.std.proofs.Common.{[], ◌∷◌, sym, refl, ap, rules}
+use Rattle.std.proofs.Common.{[], ◌∷◌, sym, refl, ap}
 use Rattle.rule_run.specs.Steps.{record_answer}
 use Rattle.rule_run.proofs.Feeding.{fed_start, ran-answered}
 use Rattle.rule_run.proofs.inner.feed_record.Goals as goal

@@ -1,7 +1,5 @@
 -- `rule_run::inner::feed_row` meets its contract: one record after the other. Assumes nothing.
-use Rattle.std.proofs.Common.{◌≡◌, ℕ, ◌+◌, ◌-◌, ◌<◌, ◌≤◌, List, length, get_or, refl, ◌∙◌, arith, rules}
-use Rattle.rule_run.specs.Window.{nonzero}
-use Rattle.rule_run.specs.Steps.{Fed}
+use Rattle.std.proofs.Common.{◌+◌, ◌-◌, refl, ◌∙◌, arith}
 use Rattle.rule_run.proofs.Feeding.{fed_at}
 use Rattle.rule_run.proofs.inner.feed_row.Goals as goal
 
@@ -14,8 +12,7 @@ feed-bits-requires c = (omega (arith, c.requires.0, c.loop-j.invariant.1.0), c.r
 
 pub loop-j-preserved : goal.loop-j-preserved
 loop-j-preserved c =
-    let l = c.loop-j in
-    (
+    let l = c.loop-j in (
       omega arith,
       (
         c.feed-bits.auto.answers ∙ l.invariant.1.0,

@@ -1,8 +1,7 @@
 -- `rule_run::inner::feed_row` meets its contract: one record after the other. Assumes nothing.
-use Rattle.std.proofs.Common.{◌≡◌, ℕ, ◌+◌, ◌-◌, ◌<◌, ◌≤◌, List, length, get_or, refl, ◌∙◌, arith, rules}
+use Rattle.std.proofs.Common.{◌≡◌, ℕ, ◌+◌, ◌-◌, ◌<◌, ◌≤◌, List, length, get_or}
 use Rattle.rule_run.specs.Window.{nonzero}
 use Rattle.rule_run.specs.Steps.{Fed}
-use Rattle.rule_run.proofs.Feeding.{fed_at}
 use Rattle.rule_run.proofs.inner.feed_row.Given as goal
 
 abbrev pub invariant-loop-j : goal.invariant-loop-j

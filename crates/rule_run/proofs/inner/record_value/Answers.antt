@@ -1,5 +1,5 @@
 -- `rule_run::inner::record_value` meets its contract: each test is that of its number, and the value is that of the first record. Assumes nothing.
-use Rattle.std.proofs.Common.{ℕ, [], ◌∷◌, length, sym, ap, ◌∙◌, arith, rules}
+use Rattle.std.proofs.Common.{ℕ, [], ◌∷◌, length, sym, ap, ◌∙◌, arith}
 use Rattle.arrays.specs.Parts.{part_at}
 use Rattle.arrays.proofs.Parts.{length-part}
 use Rattle.limits.specs.Refusal.{refuse, outcome}

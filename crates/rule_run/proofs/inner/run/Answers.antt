@@ -1,5 +1,5 @@
 -- `rule_run::inner::run` meets its contract: rows, then the rest. Assumes nothing.
-use Rattle.std.proofs.Common.{◌*◌, ◌/◌, arith, rules}
+use Rattle.std.proofs.Common.{◌*◌, ◌/◌, arith}
 use Rattle.expr.specs.Formula.{tokens}
 use Rattle.rule_run.specs.Window.{mark_at}
 use Rattle.rule_run.proofs.Feeding.{fed_start, marks-low, ready_less}

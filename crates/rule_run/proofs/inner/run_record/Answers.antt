@@ -1,5 +1,5 @@
 -- `rule_run::inner::run_record` meets its contract: a refused record changes nothing, and another is fed by the formula's value. Assumes nothing.
-use Rattle.std.proofs.Common.{ℕ, [], ◌∷◌, sym, refl, ap, ◌∙◌, arith, rules}
+use Rattle.std.proofs.Common.{ℕ, [], ◌∷◌, sym, refl, ap, ◌∙◌, arith}
 use Rattle.arrays.specs.Parts.{part_at}
 use Rattle.limits.proofs.Refusals.{outcome-word}
 use Rattle.expr.specs.Formula.{tokens}

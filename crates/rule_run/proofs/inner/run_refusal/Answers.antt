@@ -1,5 +1,5 @@
 -- `rule_run::inner::run_refusal` meets its contract: each test is that of its number. Assumes nothing.
-use Rattle.std.proofs.Common.{not, sym, ap, ◌∙◌, rules}
+use Rattle.std.proofs.Common.{not, sym, ap, ◌∙◌}
 use Rattle.limits.proofs.Refusals.{or_here, or_later, within}
 use Rattle.rule_run.proofs.Feeding.{refusal_1, refusal_2, refusal_4, refusal_6, refusal_10, refusal-none}
 use Rattle.rule_run.proofs.inner.run_refusal.Goals as goal

@@ -1,9 +1,8 @@
 -- `rule_run::inner::run_rest` meets its contract: one record after the other. Assumes nothing.
-use Rattle.std.proofs.Common.{◌≡◌, ℕ, ◌+◌, ◌-◌, ◌*◌, ◌≤◌, List, length, refl, ap, ◌∙◌, arith, rules}
+use Rattle.std.proofs.Common.{ℕ, ◌+◌, ◌-◌, ◌*◌, ◌≤◌, length, refl, ap, ◌∙◌, arith, rules}
 use Rattle.arrays.proofs.Parts.{part_within, part_is, length-part}
 use Rattle.expr.specs.Formula.{tokens, is_formula}
 use Rattle.rule_run.specs.Window.{mark_at}
-use Rattle.rule_run.specs.Steps.{Fed}
 use Rattle.rule_run.proofs.Feeding.{fed_at, mark-is}
 use Rattle.rule_run.proofs.inner.run_rest.Goals as goal
 
@@ -62,8 +61,7 @@ feed-bits-requires c = (omega (arith, c.requires.1.1, c.loop-k.invariant.1.0), (
 pub loop-k-preserved : goal.loop-k-preserved
 loop-k-preserved c =
     let a = c.args in
-    let l = c.loop-k in
-    (
+    let l = c.loop-k in (
       omega arith,
       (
         c.feed-bits.auto.answers ∙ l.invariant.1.0,

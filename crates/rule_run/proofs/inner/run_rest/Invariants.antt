@@ -1,10 +1,8 @@
 -- `rule_run::inner::run_rest` meets its contract: one record after the other. Assumes nothing.
-use Rattle.std.proofs.Common.{◌≡◌, ℕ, ◌+◌, ◌-◌, ◌*◌, ◌≤◌, List, length, refl, ap, ◌∙◌, arith, rules}
-use Rattle.arrays.proofs.Parts.{part_within, part_is, length-part}
-use Rattle.expr.specs.Formula.{tokens, is_formula}
+use Rattle.std.proofs.Common.{◌≡◌, ℕ, ◌-◌, ◌≤◌, List, length}
+use Rattle.expr.specs.Formula.{tokens}
 use Rattle.rule_run.specs.Window.{mark_at}
 use Rattle.rule_run.specs.Steps.{Fed}
-use Rattle.rule_run.proofs.Feeding.{fed_at, mark-is}
 use Rattle.rule_run.proofs.inner.run_rest.Given as goal
 
 abbrev pub invariant-loop-k : goal.invariant-loop-k

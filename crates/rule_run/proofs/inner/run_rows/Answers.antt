@@ -4,7 +4,6 @@ use Rattle.arrays.specs.Parts.{part_at}
 use Rattle.arrays.proofs.Parts.{part_within, part_is, part_part, length-part}
 use Rattle.expr.specs.Formula.{tokens}
 use Rattle.rule_run.specs.Window.{mark_at}
-use Rattle.rule_run.specs.Steps.{Fed}
 use Rattle.rule_run.proofs.Feeding.{fed_at, mark-is}
 use Rattle.rule_run.proofs.inner.run_rows.Goals as goal
 
@@ -79,8 +78,7 @@ feed_row-bits-requires c = (omega (arith, c.requires.1, c.loop-k.invariant.1.1.0
 pub loop-k-preserved : goal.loop-k-preserved
 loop-k-preserved c =
     let a = c.args in
-    let l = c.loop-k in
-    (
+    let l = c.loop-k in (
       omega arith,
       (
         c.eval_row-row.auto.stack ∙ l.invariant.1.0,

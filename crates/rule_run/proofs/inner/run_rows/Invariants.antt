@@ -1,11 +1,8 @@
 -- `rule_run::inner::run_rows` meets its contract: sixteen after sixteen. Assumes nothing.
-use Rattle.std.proofs.Common.{◌≡◌, ℕ, ◌+◌, ◌-◌, ◌*◌, ◌≤◌, List, length, sym, refl, ap, ◌∙◌, mul_assoc, mul_comm, arith, rules}
-use Rattle.arrays.specs.Parts.{part_at}
-use Rattle.arrays.proofs.Parts.{part_within, part_is, part_part, length-part}
+use Rattle.std.proofs.Common.{◌≡◌, ℕ, ◌-◌, ◌*◌, ◌≤◌, List, length}
 use Rattle.expr.specs.Formula.{tokens}
 use Rattle.rule_run.specs.Window.{mark_at}
 use Rattle.rule_run.specs.Steps.{Fed}
-use Rattle.rule_run.proofs.Feeding.{fed_at, mark-is}
 use Rattle.rule_run.proofs.inner.run_rows.Given as goal
 
 abbrev pub invariant-loop-k : goal.invariant-loop-k

@@ -1,5 +1,5 @@
 -- `rule_run::inner::too_few` meets its contract: so many whole records are so many words. Assumes nothing.
-use Rattle.std.proofs.Common.{length, sym, refl, ◌∙◌, rules, le-ltb, lt-ltb}
+use Rattle.std.proofs.Common.{length, sym, refl, ◌∙◌, le-ltb, lt-ltb}
 use Rattle.limits.proofs.Refusals.{or_here, or_later, parts_few}
 use Rattle.rule_run.proofs.inner.too_few.Goals as goal
 

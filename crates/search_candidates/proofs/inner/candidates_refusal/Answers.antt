@@ -1,7 +1,6 @@
 -- `search_candidates::inner::candidates_refusal` meets its contract: the tests stand in the table's order. Assumes nothing.
 use mathlib.Core.Path.{refl, sym, ap, ◌∙◌}
 use mathlib.Core.Bool.{not}
-use borrow.Author.Rules.{rules}
 use borrow.Author.Tests.{lt-ltb, le-ltb, le-leb, lt-leb}
 use Rattle.limits.proofs.Refusals.{refused_here, refused-later, or_here, or_later, within}
 use Rattle.arith.proofs.Remainders.{mask_lt, mask_le}

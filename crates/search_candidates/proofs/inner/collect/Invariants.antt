@@ -1,7 +1,6 @@
 -- `search_candidates::inner::collect` meets its contract: at each turn the list holds what is kept of the places before the sweep's. Assumes nothing.
 use Prim.Native.Nat.{◌-◌}
-use native.Mathlib.Omega.{arith}
-use Rattle.search_candidates.proofs.Filling.{Filling, no_samples, filling_start, filling_more, filling_end}
+use Rattle.search_candidates.proofs.Filling.{Filling}
 use Rattle.search_candidates.proofs.inner.collect.Given as goal
 
 abbrev pub invariant-loop-s : goal.invariant-loop-s

@@ -1,10 +1,8 @@
 -- `search_candidates::inner::list_run` meets its contract: the run goes on up to place i, and is copied. Assumes nothing.
-use mathlib.Core.Path.{◌≡◌, sym, ◌∙◌}
+use mathlib.Core.Path.{◌≡◌}
 use Prim.Native.Nat.{◌-◌}
-use borrow.Author.Rules.{rules}
-use native.Mathlib.Omega.{arith}
 use Rattle.search_filter.specs.Places.{word_at}
-use Rattle.search_candidates.proofs.Runs.{RunTo, run-start, run-size, run_more, run_ends, run-all}
+use Rattle.search_candidates.proofs.Runs.{RunTo}
 use Rattle.search_candidates.proofs.inner.list_run.Given as goal
 
 abbrev pub invariant-loop-i : goal.invariant-loop-i

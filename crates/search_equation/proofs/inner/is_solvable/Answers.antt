@@ -1,6 +1,5 @@
 -- `search_equation::inner::is_solvable` meets its contract: both counts are the definition's. Assumes nothing.
 use mathlib.Core.Path.{ap₂}
-use borrow.Author.Rules.{rules}
 use lib.Dec.{leb}
 use Rattle.search_equation.specs.Equation.{solvable}
 use Rattle.search_equation.proofs.inner.is_solvable.Goals as goal

@@ -1,9 +1,8 @@
 -- `search_filter::inner::count_below` meets its contract: the samples before `from` are below the key, those from `to` on are not. Assumes nothing.
 use Prim.Native.Nat.{ℕ, ◌+◌, ◌-◌, ◌/◌}
 use lib.ListN.{get_or}
-use borrow.Author.Rules.{rules}
 use native.Mathlib.Omega.{arith}
-use Rattle.search_filter.proofs.Halving.{Seek, seek_start, seek_right, seek_left, seek_done}
+use Rattle.search_filter.proofs.Halving.{seek_start, seek_right, seek_left, seek_done}
 use Rattle.search_filter.proofs.inner.count_below.Goals as goal
 
 pub loop-from-init : goal.loop-from-init

@@ -1,7 +1,6 @@
 -- `search_filter::inner::first_place` meets its contract: the sweep begins at place 0. Assumes nothing.
 use mathlib.Core.Path.{subst}
 use Prim.Native.Nat.{ℕ}
-use borrow.Author.Rules.{rules}
 use Rattle.search_filter.specs.Sweeps.{Settled}
 use Rattle.search_filter.proofs.Keys.{sweeping-start}
 use Rattle.search_filter.proofs.inner.first_place.Goals as goal

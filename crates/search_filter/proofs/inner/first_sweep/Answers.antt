@@ -1,7 +1,6 @@
 -- `search_filter::inner::first_sweep` meets its contract: 2^z keys are left, and the first is the least. Assumes nothing.
 use mathlib.Core.Path.{refl}
 use native.Mathlib.Omega.{arith}
-use borrow.Author.Rules.{rules}
 use Rattle.arith.proofs.Remainders.{shl_one}
 use Rattle.search_filter.proofs.Running.{key_first}
 use Rattle.search_filter.proofs.inner.first_sweep.Goals as goal

@@ -1,11 +1,7 @@
 -- `search_filter::inner::lower_between` meets its contract: what is looked for lies between `a` and `b`. Assumes nothing.
-use mathlib.Core.Path.{subst}
-use Prim.Native.Nat.{ℕ, ◌+◌, ◌-◌, ◌/◌, ◌<◌, ◌≤◌}
-use borrow.Author.Rules.{rules}
-use native.Mathlib.Omega.{arith}
+use Prim.Native.Nat.{◌-◌}
 use Rattle.search_filter.specs.Places.{word_at}
-use Rattle.search_filter.proofs.Halving.{Seek, seek_start, seek_right, seek_left, reached_earlier}
-use Rattle.search_filter.proofs.Words.{words-ascend}
+use Rattle.search_filter.proofs.Halving.{Seek}
 use Rattle.search_filter.proofs.inner.lower_between.Given as goal
 
 abbrev pub invariant-loop-b : goal.invariant-loop-b

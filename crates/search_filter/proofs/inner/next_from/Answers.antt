@@ -1,5 +1,4 @@
 -- `search_filter::inner::next_from` meets its contract: what holds from a place on holds from a later one on. Assumes nothing.
-use borrow.Author.Rules.{rules}
 use Rattle.search_filter.proofs.Keys.{sweeping-from}
 use Rattle.search_filter.proofs.inner.next_from.Goals as goal
 

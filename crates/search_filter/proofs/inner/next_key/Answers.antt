@@ -2,7 +2,6 @@
 use mathlib.Core.Path.{ap}
 use Prim.Native.Nat.{ℕ, ◌+◌}
 use native.Mathlib.Omega.{arith}
-use borrow.Author.Rules.{rules}
 use Rattle.arith.proofs.Remainders.{shl_one}
 use Rattle.search_filter.proofs.Running.{step_small, next-below, key_next}
 use Rattle.search_filter.proofs.inner.next_key.Goals as goal

@@ -1,11 +1,8 @@
 -- `search_filter::inner::sample` meets its contract: each of the first j samples is the word at its place, a step after the one before. Assumes nothing.
-use mathlib.Core.Path.{◌≡◌, refl, ◌∙◌}
+use mathlib.Core.Path.{◌≡◌}
 use Prim.Native.Nat.{◌+◌, ◌-◌, ◌*◌, ◌<◌}
-use lib.ListN.{length, length-set}
-use borrow.Author.Rules.{rules}
-use native.Mathlib.Omega.{arith}
+use lib.ListN.{length}
 use Rattle.search_filter.specs.Places.{sample_step, Sampled}
-use Rattle.search_filter.proofs.Words.{sampled_more}
 use Rattle.search_filter.proofs.inner.sample.Given as goal
 
 abbrev pub invariant-loop-j : goal.invariant-loop-j

@@ -1,9 +1,8 @@
 -- `search_filter::inner::scan_lower` meets its contract: up to place i the words before place a are below the key, those from a on are not. Assumes nothing.
 use mathlib.Core.Path.{refl, subst}
 use Prim.Native.Nat.{ℕ, ◌-◌, ◌<◌, ◌≤◌}
-use borrow.Author.Rules.{rules}
 use native.Mathlib.Omega.{arith}
-use Rattle.search_filter.specs.Places.{word_at, Reached}
+use Rattle.search_filter.specs.Places.{word_at}
 use Rattle.search_filter.proofs.Halving.{reached_end, scan_below, scan_over, scan_done}
 use Rattle.search_filter.proofs.Words.{words-ascend}
 use Rattle.search_filter.proofs.inner.scan_lower.Goals as goal

@@ -1,5 +1,4 @@
 -- `search_filter::inner::settle` meets its contract: where no key is left, the tail has the next place. Assumes nothing.
-use borrow.Author.Rules.{rules}
 use Rattle.search_filter.proofs.Keys.{keys_passed, settled_key, settled_tail}
 use Rattle.search_filter.proofs.inner.settle.Goals as goal
 

@@ -1,7 +1,6 @@
 -- `search_filter::inner::word_at` meets its contract: a listed slot is below n, so that its row is there. Assumes nothing.
 use Prim.Native.Nat.{◌<◌}
 use lib.ListN.{get_or}
-use borrow.Author.Rules.{rules}
 use native.Mathlib.Omega.{arith}
 use Rattle.search_filter.proofs.Words.{slot-below}
 use Rattle.search_filter.proofs.inner.word_at.Goals as goal

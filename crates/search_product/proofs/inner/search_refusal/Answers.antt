@@ -4,7 +4,6 @@ use mathlib.Core.Bool.{not, false, ◌||◌}
 use mathlib.Core.List.{[]}
 use Prim.Native.Nat.{◌/◌}
 use native.Mathlib.Omega.{arith}
-use borrow.Author.Rules.{rules}
 use borrow.Author.Tests.{lt-ltb, le-ltb, ltb-false}
 use lib.Dec.{ltb}
 use lib.ListN.{length}

@@ -1,10 +1,9 @@
 -- `search_product_atoms::inner::copy_firsts` meets its contract: the words passed are copied. Assumes nothing.
-use mathlib.Core.Path.{◌≡◌, refl, ◌∙◌}
-use Prim.Native.Nat.{◌-◌, ◌≤◌}
-use lib.ListN.{length, length-set}
-use Rattle.arrays.proofs.Fill.{Filled, filled_more}
+use mathlib.Core.Path.{refl, ◌∙◌}
+use Prim.Native.Nat.{◌-◌}
+use lib.ListN.{length-set}
+use Rattle.arrays.proofs.Fill.{filled_more}
 use Rattle.index_order.specs.Order.{first_word}
-use borrow.Author.Rules.{rules}
 use native.Mathlib.Omega.{arith}
 use Rattle.search_product_atoms.proofs.inner.copy_firsts.Goals as goal
 

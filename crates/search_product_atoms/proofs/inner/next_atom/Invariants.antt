@@ -1,12 +1,8 @@
 -- `search_product_atoms::inner::next_atom` meets its contract: nothing fits up to atom b. Where the first products differ none fits. Assumes nothing.
-use mathlib.Core.Path.{◌≡◌, sym, ◌∙◌}
+use mathlib.Core.Path.{◌≡◌}
 use mathlib.Core.Bool.{false}
-use mathlib.Core.Logic.{inl, inr}
 use Prim.Native.Nat.{ℕ, ◌-◌, ◌≤◌, ◌<◌}
 use Rattle.search_product_trial.specs.Steps.{fits_at}
-use Rattle.search_product_trial.proofs.Firsts.{first-not, skip_more}
-use native.Mathlib.Omega.{arith}
-use borrow.Author.Rules.{rules}
 use Rattle.search_product_atoms.proofs.inner.next_atom.Given as goal
 
 abbrev pub invariant-loop-b : goal.invariant-loop-b

@@ -1,7 +1,7 @@
 -- `search_product_atoms::inner::search_atoms` meets its contract: the least of the trials of all atoms before a is kept; those before an atom were tried with it. Assumes nothing.
 use mathlib.Core.Path.{◌≡◌, ap, ◌∙◌, subst}
 use mathlib.Core.List.{List, []}
-use Prim.Native.Nat.{ℕ, ◌-◌, ◌≤◌}
+use Prim.Native.Nat.{◌-◌}
 use Rattle.arrays.specs.Least.{least_that}
 use Rattle.search_product_forms.specs.Written.{forms}
 use Rattle.search_product_forms.proofs.Forming.{written_any}
@@ -9,7 +9,6 @@ use Rattle.search_product_trial.specs.Trying.{Product, fitting, cheaper}
 use Rattle.search_product_trial.specs.Stages.{Keeps}
 use Rattle.search_product_trial.proofs.Rounds.{rounds, every_atom, atoms-start, atoms-turn, atoms-all}
 use native.Mathlib.Omega.{arith}
-use borrow.Author.Rules.{rules}
 use Rattle.search_product_atoms.proofs.inner.search_atoms.Goals as goal
 
 pub loop-a-init : goal.loop-a-init

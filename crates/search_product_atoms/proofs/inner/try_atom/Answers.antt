@@ -1,18 +1,15 @@
 -- `search_product_atoms::inner::try_atom` meets its contract: the trials up to atom b are done, and b fits if it is one; or all are too dear, or none fits. Assumes nothing.
 use mathlib.Core.Path.{◌≡◌, sym, ◌∙◌, subst}
-use mathlib.Core.Bool.{true}
-use mathlib.Core.List.{List, []}
-use Prim.Native.Nat.{ℕ, ◌+◌, ◌-◌, ◌≤◌, ◌<◌}
-use borrow.Author.Tests.{leb-false, not-true}
+use mathlib.Core.List.{[]}
+use Prim.Native.Nat.{ℕ, ◌+◌, ◌-◌}
+use borrow.Author.Tests.{leb-false}
 use Rattle.arrays.specs.Lists.{count_up}
 use Rattle.arrays.proofs.Lists.{count_in}
 use Rattle.search_product_forms.specs.Written.{forms}
 use Rattle.search_product_forms.proofs.Forming.{written_any}
 use Rattle.search_product_trial.specs.Trying.{Product, fitting}
-use Rattle.search_product_trial.specs.Steps.{fits_at}
 use Rattle.search_product_trial.proofs.Keeping.{TriedTo, none_kept, to_start, to_pass, to_offer, atom_dear, atoms-same}
 use native.Mathlib.Omega.{arith}
-use borrow.Author.Rules.{rules}
 use Rattle.search_product_atoms.proofs.inner.try_atom.Goals as goal
 
 pub overflow_add-lengths : goal.overflow_add-lengths

@@ -1,18 +1,12 @@
 -- `search_product_atoms::inner::try_atom` meets its contract: the trials up to atom b are done, and b fits if it is one; or all are too dear, or none fits. Assumes nothing.
-use mathlib.Core.Path.{◌≡◌, sym, ◌∙◌, subst}
+use mathlib.Core.Path.{◌≡◌}
 use mathlib.Core.Bool.{true}
-use mathlib.Core.List.{List, []}
-use Prim.Native.Nat.{ℕ, ◌+◌, ◌-◌, ◌≤◌, ◌<◌}
-use borrow.Author.Tests.{leb-false, not-true}
-use Rattle.arrays.specs.Lists.{count_up}
-use Rattle.arrays.proofs.Lists.{count_in}
+use mathlib.Core.List.{List}
+use Prim.Native.Nat.{ℕ, ◌-◌, ◌≤◌, ◌<◌}
 use Rattle.search_product_forms.specs.Written.{forms}
-use Rattle.search_product_forms.proofs.Forming.{written_any}
 use Rattle.search_product_trial.specs.Trying.{Product, fitting}
 use Rattle.search_product_trial.specs.Steps.{fits_at}
-use Rattle.search_product_trial.proofs.Keeping.{TriedTo, none_kept, to_start, to_pass, to_offer, atom_dear, atoms-same}
-use native.Mathlib.Omega.{arith}
-use borrow.Author.Rules.{rules}
+use Rattle.search_product_trial.proofs.Keeping.{TriedTo}
 use Rattle.search_product_atoms.proofs.inner.try_atom.Given as goal
 
 abbrev pub invariant-loop-b : goal.invariant-loop-b

@@ -8,7 +8,6 @@ use Rattle.expr_cost.proofs.Spans.{whole-ends, whole_info}
 use Rattle.search_product_forms.specs.Written.{atom_forms}
 use Rattle.search_product_forms.proofs.Forming.{form-is}
 use native.Mathlib.Omega.{arith}
-use borrow.Author.Rules.{rules}
 use Rattle.search_product_forms.proofs.inner.atom_info.Goals as goal
 
 pub overflow_cast-length : goal.overflow_cast-length

@@ -9,7 +9,6 @@ use Rattle.expr.specs.Formula.{is_formula}
 use Rattle.search_product_forms.specs.Written.{atom_forms}
 use Rattle.search_product_forms.proofs.Forming.{form-is}
 use native.Mathlib.Omega.{arith}
-use borrow.Author.Rules.{rules}
 use Rattle.search_product_forms.proofs.inner.bad_atom.Goals as goal
 
 pub overflow_cast-length : goal.overflow_cast-length

@@ -1,13 +1,11 @@
 -- `search_product_forms::inner::bad_atoms` meets its contract: from atom k on the first that is bad is the first of all. Assumes nothing.
-use mathlib.Core.Path.{◌≡◌, sym, ap, ◌∙◌}
-use Prim.Native.Nat.{◌-◌, ◌≤◌}
-use Rattle.arrays.specs.Lists.{count_up, first_that}
+use mathlib.Core.Path.{sym, ap, ◌∙◌}
+use Prim.Native.Nat.{◌-◌}
 use Rattle.arrays.proofs.Lists.{up_start, up-hit, up_miss, up_end}
 use Rattle.expr.specs.Formula.{is_some}
 use Rattle.search_product_forms.specs.Refusals.{bad_atom}
 use Rattle.search_product_forms.specs.Written.{atom_forms}
 use native.Mathlib.Omega.{arith}
-use borrow.Author.Rules.{rules}
 use Rattle.search_product_forms.proofs.inner.bad_atoms.Goals as goal
 
 pub loop-k-init : goal.loop-k-init

@@ -1,14 +1,12 @@
 -- `search_product_forms::inner::bad_pairs` meets its contract: from pair s on the first that is bad is the first of all. Assumes nothing.
-use mathlib.Core.Path.{◌≡◌, sym, ap, ◌∙◌}
+use mathlib.Core.Path.{sym, ap, ◌∙◌}
 use mathlib.Core.List.{[]}
-use Prim.Native.Nat.{◌-◌, ◌≤◌}
-use Rattle.arrays.specs.Lists.{count_up, first_that}
+use Prim.Native.Nat.{◌-◌}
 use Rattle.arrays.proofs.Lists.{up_start, up-hit, up_miss, up_end}
 use Rattle.expr.specs.Formula.{is_some}
 use Rattle.search_product_forms.specs.Refusals.{bad_pair}
 use Rattle.search_product_forms.specs.Written.{forms}
 use native.Mathlib.Omega.{arith}
-use borrow.Author.Rules.{rules}
 use Rattle.search_product_forms.proofs.inner.bad_pairs.Goals as goal
 
 pub loop-s-init : goal.loop-s-init

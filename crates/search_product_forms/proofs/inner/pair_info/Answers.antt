@@ -9,7 +9,6 @@ use Rattle.search_product_forms.specs.Forms.{atom_form, pair_b, pair_c}
 use Rattle.search_product_forms.specs.Written.{forms}
 use Rattle.search_product_forms.proofs.Forming.{form_any, written_any, atom_roomy, pair-cost}
 use native.Mathlib.Omega.{arith}
-use borrow.Author.Rules.{rules}
 use Rattle.search_product_forms.proofs.inner.pair_info.Goals as goal
 
 pub overflow_cast-b : goal.overflow_cast-b

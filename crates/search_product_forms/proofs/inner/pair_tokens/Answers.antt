@@ -1,6 +1,5 @@
 -- `search_product_forms::inner::pair_tokens` meets its contract: lengths of at most 6 add up. Assumes nothing.
 use native.Mathlib.Omega.{arith}
-use borrow.Author.Rules.{rules}
 use Rattle.search_product_forms.proofs.inner.pair_tokens.Goals as goal
 
 pub overflow_add-result : goal.overflow_add-result

@@ -1,13 +1,8 @@
 -- `search_product_pairs::inner::next_slot` meets its contract: nothing fits up to slot s. Where the second products differ none fits. Assumes nothing.
-use mathlib.Core.Path.{◌≡◌, sym, ◌∙◌}
+use mathlib.Core.Path.{◌≡◌}
 use mathlib.Core.Bool.{false}
-use mathlib.Core.Logic.{inl, inr}
 use Prim.Native.Nat.{ℕ, ◌-◌, ◌≤◌, ◌<◌}
 use Rattle.search_product_trial.specs.Steps.{fits_at}
-use Rattle.search_product_trial.proofs.Trials.{fits_not}
-use Rattle.search_product_trial.proofs.Firsts.{skip_more}
-use native.Mathlib.Omega.{arith}
-use borrow.Author.Rules.{rules}
 use Rattle.search_product_pairs.proofs.inner.next_slot.Given as goal
 
 abbrev pub invariant-loop-s : goal.invariant-loop-s

@@ -1,13 +1,12 @@
 -- `search_product_pairs::inner::search_pairs` meets its contract: the trials of all atoms before a are done. Assumes nothing.
 use mathlib.Core.Path.{◌≡◌, ap, ◌∙◌, subst}
 use mathlib.Core.List.{List}
-use Prim.Native.Nat.{◌-◌, ◌≤◌}
+use Prim.Native.Nat.{◌-◌}
 use Rattle.search_product_forms.specs.Written.{forms}
 use Rattle.search_product_trial.specs.Trying.{Product, fitting}
 use Rattle.search_product_trial.specs.Stages.{Tried}
 use Rattle.search_product_trial.proofs.Rounds.{rounds, pair_slots, tried-none, tried-turn, pairs-all}
 use native.Mathlib.Omega.{arith}
-use borrow.Author.Rules.{rules}
 use Rattle.search_product_pairs.proofs.inner.search_pairs.Goals as goal
 
 pub loop-a-init : goal.loop-a-init

@@ -1,15 +1,10 @@
 -- `search_product_pairs::inner::try_class` meets its contract: the trials up to the sweep's place are done; places that are passed over are not of the class, or don't fit. Assumes nothing.
-use mathlib.Core.Path.{◌∙◌}
-use Prim.Native.Nat.{◌+◌, ◌-◌}
-use Rattle.search_filter.specs.Sweeps.{Sweeping, in_class}
-use Rattle.search_filter.proofs.PlaceLaws.{skips_join, skips-narrow}
-use Rattle.search_filter.proofs.Words.{slot-below}
+use Prim.Native.Nat.{◌-◌}
+use Rattle.search_filter.specs.Sweeps.{Sweeping}
 use Rattle.search_product_forms.specs.Written.{forms}
 use Rattle.search_product_trial.specs.Trying.{fitting}
-use Rattle.search_product_trial.specs.Steps.{fits_at}
-use Rattle.search_product_trial.proofs.Keeping.{TriedTo, to_start, to_pass, to_offer, pairs-same}
-use Rattle.search_product_pairs.proofs.Slots.{at_place, places_all}
-use native.Mathlib.Omega.{arith}
+use Rattle.search_product_trial.proofs.Keeping.{TriedTo}
+use Rattle.search_product_pairs.proofs.Slots.{at_place}
 use Rattle.search_product_pairs.proofs.inner.try_class.Given as goal
 
 abbrev pub invariant-loop-place : goal.invariant-loop-place

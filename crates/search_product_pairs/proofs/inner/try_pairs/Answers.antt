@@ -2,7 +2,7 @@
 use mathlib.Core.Path.{sym, ◌∙◌, subst}
 use mathlib.Core.List.{List, map}
 use Prim.Native.Nat.{ℕ}
-use borrow.Author.Tests.{leb-false, not-true}
+use borrow.Author.Tests.{leb-false}
 use lib.ListN.{get_or}
 use Rattle.index_order.specs.Order.{first_word}
 use Rattle.search_equation.proofs.Solutions.{solved_class, solved_none}
@@ -15,7 +15,6 @@ use Rattle.search_product_trial.proofs.Keeping.{none_kept, pairs_dear, pairs-sam
 use Rattle.search_filter.proofs.Running.{class_small}
 use Rattle.search_product_pairs.proofs.Slots.{slots-used, slots_unused, asked, none-fits, narrows, listed-is}
 use native.Mathlib.Omega.{arith}
-use borrow.Author.Rules.{rules}
 use Rattle.search_product_pairs.proofs.inner.try_pairs.Goals as goal
 
 pub overflow_add-lengths : goal.overflow_add-lengths

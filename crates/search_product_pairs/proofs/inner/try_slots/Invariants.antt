@@ -1,14 +1,11 @@
 -- `search_product_pairs::inner::try_slots` meets its contract: the trials up to slot s are done, and s fits if it is one. Assumes nothing.
-use mathlib.Core.Path.{◌≡◌, ◌∙◌}
+use mathlib.Core.Path.{◌≡◌}
 use mathlib.Core.Bool.{true}
-use Prim.Native.Nat.{◌+◌, ◌-◌, ◌≤◌, ◌<◌}
+use Prim.Native.Nat.{◌-◌, ◌≤◌, ◌<◌}
 use Rattle.search_product_forms.specs.Written.{forms}
 use Rattle.search_product_trial.specs.Trying.{Product, fitting}
 use Rattle.search_product_trial.specs.Steps.{fits_at}
-use Rattle.search_product_trial.proofs.Keeping.{TriedTo, to_start, to_pass, to_offer, pairs-same}
-use Rattle.search_product_pairs.proofs.Slots.{slots-all}
-use native.Mathlib.Omega.{arith}
-use borrow.Author.Rules.{rules}
+use Rattle.search_product_trial.proofs.Keeping.{TriedTo}
 use Rattle.search_product_pairs.proofs.inner.try_slots.Given as goal
 
 abbrev pub invariant-loop-s : goal.invariant-loop-s

@@ -1,17 +1,14 @@
 -- `search_product_pairs::inner::walk_run` meets its contract: nothing fits up to place k. Where the second products differ none fits. Assumes nothing.
 use mathlib.Core.Path.{◌≡◌, sym, ap, ◌∙◌}
 use mathlib.Core.Bool.{false}
-use mathlib.Core.Logic.{inl, inr}
-use Prim.Native.Nat.{ℕ, ◌-◌, ◌*◌, ◌≤◌, ◌<◌}
+use Prim.Native.Nat.{ℕ, ◌-◌, ◌*◌, ◌<◌}
 use native.Mathlib.Decide.{dec_lt}
 use lib.ListN.{get_or}
 use Rattle.limits.proofs.Refusals.{true_not_false}
-use Rattle.search_filter.specs.Places.{Skips}
 use Rattle.search_filter.proofs.PlaceLaws.{skips-none, skips-more}
 use Rattle.search_filter.proofs.Words.{slot-below}
 use Rattle.search_product_trial.specs.Steps.{fits_at}
 use Rattle.search_product_trial.proofs.Trials.{fits_not}
-use borrow.Author.Rules.{rules}
 use native.Mathlib.Omega.{arith}
 use Rattle.search_product_pairs.proofs.inner.walk_run.Goals as goal
 

@@ -1,11 +1,8 @@
 -- `search_product_trial::inner::fits` meets its contract: the products of the words passed are the target's words. Assumes nothing.
-use mathlib.Core.Path.{◌≡◌, sym}
+use mathlib.Core.Path.{◌≡◌}
 use Prim.Native.Nat.{ℕ, ◌-◌, ◌≤◌, ◌<◌}
-use borrow.Author.Count.{below_more}
 use lib.ListN.{get_or}
-use Rattle.search_product_trial.proofs.Trials.{lane, lane-is, fits_not, fits_all}
-use borrow.Author.Rules.{rules}
-use native.Mathlib.Omega.{arith}
+use Rattle.search_product_trial.proofs.Trials.{lane}
 use Rattle.search_product_trial.proofs.inner.fits.Given as goal
 
 abbrev pub invariant-loop-j : goal.invariant-loop-j

@@ -1,13 +1,11 @@
 -- `search_product_trial::inner::may_fit` meets its contract: a word whose equation has no solution is found, or each word passed has one. Assumes nothing.
 use mathlib.Core.Path.{◌≡◌, sym, ap, ◌∙◌}
 use mathlib.Core.Bool.{true}
-use Prim.Native.Nat.{ℕ, ◌+◌, ◌-◌, ◌*◌, ◌%◌, ◌^◌, ◌≤◌, ◌<◌}
+use Prim.Native.Nat.{ℕ, ◌+◌, ◌-◌, ◌*◌, ◌%◌, ◌^◌}
 use borrow.Author.Count.{below_more}
-use borrow.Author.Tests.{not-true, not-false}
 use lib.ListN.{get_or}
 use Rattle.arith.proofs.Remainders.{modulus-is}
 use Rattle.search_equation.specs.Equation.{solvable}
-use borrow.Author.Rules.{rules}
 use native.Mathlib.Omega.{arith}
 use Rattle.limits.proofs.Refusals.{true_not_false}
 use Rattle.search_product_trial.proofs.Trials.{fits-never}

@@ -1,7 +1,7 @@
 -- `search_product_trial::inner::offer_atoms` meets its contract: a formula of more tokens than the best has size is dearer, and else the costs are compared. Assumes nothing.
 use mathlib.Core.Path.{refl, sym, ap, ap₂, ◌∙◌, subst}
 use mathlib.Core.List.{[]}
-use borrow.Author.Tests.{leb-false, not-true}
+use borrow.Author.Tests.{leb-false}
 use Rattle.row_gates.specs.declared.Gate.TheVariants.{Mul}
 use Rattle.expr_cost.specs.declared.CostInfo.{CostInfo}
 use Rattle.expr_cost.specs.Cost.{info_of, info_gate, Roomy}
@@ -10,7 +10,6 @@ use Rattle.search_product_forms.proofs.Forming.{form_any, written_any, atom_room
 use Rattle.search_product_trial.specs.Trying.{Product}
 use Rattle.search_product_trial.proofs.Keeping.{atoms-sized, atoms-cost, sized_roomy, offered_dear, offered_or}
 use native.Mathlib.Omega.{arith}
-use borrow.Author.Rules.{rules}
 use Rattle.search_product_trial.proofs.inner.offer_atoms.Goals as goal
 
 pub overflow_add-lengths : goal.overflow_add-lengths
@@ -30,11 +29,10 @@ returns-then-not-may_beat c pairs =
     (leb-false _ _ (sym c.may_beat.ensures ∙ c.if-not-may_beat.true))
 
 pub or_product-requires : goal.or_product-requires
-or_product-requires c =
-    (
-      subst (λ (x : CostInfo). Roomy x.cost) (sym c.atom_info-left.ensures) (atom_roomy c.requires.0 _ c.requires.1),
-      subst (λ (x : CostInfo). Roomy x.cost) (sym c.atom_info-right.ensures) (atom_roomy c.requires.0 _ c.requires.2),
-    )
+or_product-requires c = (
+  subst (λ (x : CostInfo). Roomy x.cost) (sym c.atom_info-left.ensures) (atom_roomy c.requires.0 _ c.requires.1),
+  subst (λ (x : CostInfo). Roomy x.cost) (sym c.atom_info-right.ensures) (atom_roomy c.requires.0 _ c.requires.2),
+)
 
 pub returns : goal.returns
 returns c pairs =

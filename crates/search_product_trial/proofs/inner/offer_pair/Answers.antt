@@ -3,7 +3,7 @@ use mathlib.Core.Path.{refl, sym, ap, ap₂, ◌∙◌, subst}
 use mathlib.Core.List.{[]}
 use Prim.Native.Nat.{◌+◌}
 use lib.ListN.{get_or}
-use borrow.Author.Tests.{leb-false, not-true}
+use borrow.Author.Tests.{leb-false}
 use Rattle.row_gates.specs.declared.Gate.TheVariants.{Mul}
 use Rattle.expr_cost.specs.declared.CostInfo.{CostInfo}
 use Rattle.expr_cost.specs.Cost.{info_of, info_gate, Roomy}
@@ -12,7 +12,6 @@ use Rattle.search_product_forms.proofs.Forming.{form_any, written_any, atom_room
 use Rattle.search_product_trial.specs.Trying.{Product}
 use Rattle.search_product_trial.proofs.Keeping.{pair-sized, pair-product-cost, sized_roomy, offered_dear, offered_or}
 use native.Mathlib.Omega.{arith}
-use borrow.Author.Rules.{rules}
 use Rattle.search_product_trial.proofs.inner.offer_pair.Goals as goal
 
 pub pair_tokens-inner-requires : goal.pair_tokens-inner-requires

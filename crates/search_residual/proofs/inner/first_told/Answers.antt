@@ -2,7 +2,6 @@
 use mathlib.Core.Path.{sym, ap, ◌∙◌}
 use Rattle.search_residual_trial.specs.Steps.{found_says}
 use Rattle.search_residual.proofs.Telling.{told_xor, told_add}
-use borrow.Author.Rules.{rules}
 use Rattle.search_residual.proofs.inner.first_told.Goals as goal
 
 pub returns-in-Nothing : goal.returns-in-Nothing

@@ -1,13 +1,11 @@
 -- `search_residual::inner::first_under` meets its contract: none of the atoms passed is told of. Assumes nothing.
 use mathlib.Core.Path.{◌≡◌, sym, ap, ◌∙◌}
 use mathlib.Core.Option.{Option, none}
-use Prim.Native.Nat.{ℕ, ◌-◌, ◌≤◌}
-use Rattle.arrays.specs.Lists.{count_up, first_of}
+use Prim.Native.Nat.{ℕ, ◌-◌}
 use Rattle.arrays.proofs.Lists.{of_start, of_hit, of_miss, of_end}
 use Rattle.search_residual_trial.specs.Trying.{Completion}
-use Rattle.search_residual.specs.Told.{lookup_says, told, told_under}
+use Rattle.search_residual.specs.Told.{lookup_says, told}
 use native.Mathlib.Omega.{arith}
-use borrow.Author.Rules.{rules}
 use Rattle.search_residual.proofs.inner.first_under.Goals as goal
 
 pub loop-next-init : goal.loop-next-init

@@ -3,7 +3,6 @@ use mathlib.Core.Path.{sym, ap}
 use mathlib.Core.Option.{some}
 use Rattle.search_residual.specs.declared.inner.Part.{Part}
 use Rattle.search_residual.specs.Told.{part_says}
-use borrow.Author.Rules.{rules}
 use Rattle.search_residual.proofs.inner.found_with.Goals as goal
 
 pub returns-in-Atom : goal.returns-in-Atom

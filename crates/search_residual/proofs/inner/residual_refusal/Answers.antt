@@ -3,7 +3,6 @@ use mathlib.Core.Path.{refl, sym, ◌∙◌}
 use borrow.Author.Tests.{lt-ltb, le-ltb}
 use Rattle.limits.proofs.Refusals.{refused_here, refused-later, or_here, or_later, within}
 use native.Mathlib.Omega.{arith}
-use borrow.Author.Rules.{rules}
 use Rattle.search_residual.proofs.inner.residual_refusal.Goals as goal
 
 pub returns-then-bad_width : goal.returns-then-bad_width

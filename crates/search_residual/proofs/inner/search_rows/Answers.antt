@@ -5,7 +5,6 @@ use Rattle.row_map.proofs.MapLaws.{chained-none}
 use Rattle.search_residual_map.specs.Map.{Asked}
 use Rattle.search_residual.proofs.Joining.{told-is-tried}
 use native.Mathlib.Omega.{arith}
-use borrow.Author.Rules.{rules}
 use Rattle.search_residual.proofs.inner.search_rows.Goals as goal
 
 pub fill-requires : goal.fill-requires

@@ -1,5 +1,5 @@
 -- `search_residual_map::inner::atom_at` meets its contract: atoms go against the numbers, under each gate. Assumes nothing.
-use Rattle.std.proofs.Common.{sym, arith, rules}
+use Rattle.std.proofs.Common.{sym, arith}
 use Rattle.search_residual_trial.proofs.Numbering.{atom-add, atom_xor}
 use Rattle.search_residual_map.proofs.inner.atom_at.Goals as goal
 

@@ -1,7 +1,6 @@
 -- `search_residual_map::inner::fill` meets its contract: the map holds the residual rows passed. Assumes nothing.
-use Rattle.std.proofs.Common.{◌≡◌, ℕ, ◌-◌, ◌*◌, ◌≤◌, subst, arith, rules}
-use Rattle.search_residual_trial.specs.Steps.{wanted}
-use Rattle.search_residual_map.specs.Map.{home_of, Wanted}
+use Rattle.std.proofs.Common.{◌-◌, ◌≤◌}
+use Rattle.search_residual_map.specs.Map.{Wanted}
 use Rattle.search_residual_map.proofs.inner.fill.Given as goal
 
 abbrev pub invariant-loop-t : goal.invariant-loop-t

@@ -1,5 +1,5 @@
 -- `search_residual_map::inner::first_of` meets its contract: the entry and the slot are the first of the rows passed. Assumes nothing.
-use Rattle.std.proofs.Common.{◌≡◌, ℕ, ◌-◌, ◌≤◌, get_or, ap, subst, arith, rules}
+use Rattle.std.proofs.Common.{◌≡◌, ℕ, ◌-◌, get_or, ap, subst, arith}
 use Rattle.search_residual_map.specs.Map.{Best}
 use Rattle.search_residual_map.proofs.Passing.{best_start, best_better, best_kept, best_first}
 use Rattle.search_residual_map.proofs.inner.first_of.Goals as goal

@@ -1,5 +1,5 @@
 -- `search_residual_map::inner::home_of` meets its contract: the highest twelve of 64 bits are a quotient. Assumes nothing.
-use Rattle.std.proofs.Common.{◌≡◌, ℕ, ◌/◌, ◌^◌, ◌<◌, sym, ap, subst, rules}
+use Rattle.std.proofs.Common.{◌≡◌, ℕ, ◌/◌, ◌^◌, ◌<◌, sym, ap, subst}
 use Rattle.arrays.specs.Parts.{part_at}
 use Rattle.search_residual_map.specs.Map.{home_of}
 use Rattle.search_residual_map.proofs.Walking.{home-small}

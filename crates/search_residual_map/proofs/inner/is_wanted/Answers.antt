@@ -1,5 +1,5 @@
 -- `search_residual_map::inner::is_wanted` meets its contract: gate and atom are those of the number. Assumes nothing.
-use Rattle.std.proofs.Common.{ℕ, ◌∙◌, ap₂, arith, rules}
+use Rattle.std.proofs.Common.{ℕ, ◌∙◌, ap₂, arith}
 use Rattle.arrays.specs.Parts.{part_at}
 use Rattle.row_gates.specs.Gates.{same_row}
 use Rattle.row_gates.specs.declared.Gate.{Gate}

@@ -1,5 +1,5 @@
 -- `search_residual_map::inner::mix_row` meets its contract: the sum so far and the words to come give the whole. Assumes nothing.
-use Rattle.std.proofs.Common.{◌≡◌, ℕ, ◌+◌, ◌-◌, ◌*◌, ◌%◌, ◌^◌, ◌≤◌, get_or, drop, sym, refl, ap, ◌∙◌, ap₂, arith, rules}
+use Rattle.std.proofs.Common.{◌≡◌, ℕ, ◌+◌, ◌-◌, ◌*◌, ◌%◌, ◌^◌, get_or, drop, sym, refl, ap, ◌∙◌, ap₂, arith}
 use lib.Bits.{bit_xor}
 use Rattle.arrays.specs.Parts.{part_at}
 use Rattle.arrays.proofs.Parts.{length-part, get_d_part}

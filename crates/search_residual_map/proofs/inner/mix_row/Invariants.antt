@@ -1,10 +1,7 @@
 -- `search_residual_map::inner::mix_row` meets its contract: the sum so far and the words to come give the whole. Assumes nothing.
-use Rattle.std.proofs.Common.{◌≡◌, ℕ, ◌+◌, ◌-◌, ◌*◌, ◌%◌, ◌^◌, ◌≤◌, get_or, drop, sym, refl, ap, ◌∙◌, ap₂, arith, rules}
-use lib.Bits.{bit_xor}
+use Rattle.std.proofs.Common.{◌≡◌, ◌-◌, ◌*◌, ◌≤◌, drop}
 use Rattle.arrays.specs.Parts.{part_at}
-use Rattle.arrays.proofs.Parts.{length-part, get_d_part}
-use Rattle.search_residual_map.specs.Map.{swapped_of, mixed_from, mixed}
-use Rattle.search_residual_map.proofs.Mixing.{mixed-step, mixed_end}
+use Rattle.search_residual_map.specs.Map.{mixed_from, mixed}
 use Rattle.search_residual_map.proofs.inner.mix_row.Given as goal
 
 abbrev pub invariant-loop-i : goal.invariant-loop-i

@@ -1,6 +1,6 @@
 -- `search_residual_map::inner::walk` meets its contract: the row is none of the residual rows passed, and links fall, so that the walk ends. Assumes nothing.
-use Rattle.std.proofs.Common.{◌-◌, sym, ◌∙◌, arith, rules}
-use Rattle.search_residual_map.proofs.Walking.{Along, along_start, along_on, link-low, read_hit, read_none}
+use Rattle.std.proofs.Common.{◌-◌, sym, ◌∙◌, arith}
+use Rattle.search_residual_map.proofs.Walking.{along_start, along_on, link-low, read_hit, read_none}
 use Rattle.search_residual_map.proofs.inner.walk.Goals as goal
 
 pub loop-entry-init : goal.loop-entry-init

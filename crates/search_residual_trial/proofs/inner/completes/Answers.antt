@@ -1,11 +1,10 @@
 -- `search_residual_trial::inner::completes` meets its contract: the words passed are those of the row that completes the atom. Assumes nothing.
 use mathlib.Core.Path.{◌≡◌, sym, ◌∙◌}
-use Prim.Native.Nat.{ℕ, ◌+◌, ◌-◌, ◌*◌, ◌≤◌, ◌<◌}
+use Prim.Native.Nat.{ℕ, ◌+◌, ◌-◌, ◌*◌}
 use borrow.Author.Count.{below_more}
 use lib.ListN.{get_or}
 use Rattle.search_residual_trial.proofs.Trials.{lane, completes_not, completes_all}
 use native.Mathlib.Omega.{arith}
-use borrow.Author.Rules.{rules}
 use Rattle.search_residual_trial.proofs.inner.completes.Goals as goal
 
 pub loop-j-init : goal.loop-j-init

@@ -1,11 +1,8 @@
 -- `search_residual_trial::inner::completes` meets its contract: the words passed are those of the row that completes the atom. Assumes nothing.
-use mathlib.Core.Path.{◌≡◌, sym, ◌∙◌}
+use mathlib.Core.Path.{◌≡◌}
 use Prim.Native.Nat.{ℕ, ◌+◌, ◌-◌, ◌*◌, ◌≤◌, ◌<◌}
-use borrow.Author.Count.{below_more}
 use lib.ListN.{get_or}
-use Rattle.search_residual_trial.proofs.Trials.{lane, completes_not, completes_all}
-use native.Mathlib.Omega.{arith}
-use borrow.Author.Rules.{rules}
+use Rattle.search_residual_trial.proofs.Trials.{lane}
 use Rattle.search_residual_trial.proofs.inner.completes.Given as goal
 
 abbrev pub invariant-loop-j : goal.invariant-loop-j

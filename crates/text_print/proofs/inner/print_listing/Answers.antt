@@ -1,6 +1,5 @@
 -- `text_print::inner::print_listing` meets its contract: head, atoms and pairs, which is the listing of what the arrays hold. Assumes nothing.
 use native.Mathlib.Omega.{arith}
-use borrow.Author.Rules.{rules}
 use Rattle.text_print.proofs.Decimals.{then, reads}
 use Rattle.text_print.proofs.Listings.{listing-is}
 use Rattle.text_print.proofs.inner.print_listing.Goals as goal

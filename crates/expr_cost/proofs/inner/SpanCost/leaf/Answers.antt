@@ -2,7 +2,6 @@
 use mathlib.Core.Path.{ap}
 use Rattle.expr_cost.specs.declared.CostInfo.{CostInfo}
 use Rattle.expr_cost.specs.declared.inner.SpanCost.{SpanCost}
-use borrow.Author.Rules.{rules}
 use Rattle.expr_cost.proofs.inner.SpanCost.leaf.Goals as goal
 
 pub returns : goal.returns

@@ -2,7 +2,6 @@
 use mathlib.Core.Path.{sym, ap, ◌∙◌}
 use Rattle.expr_cost.specs.declared.CostInfo.{CostInfo}
 use Rattle.search_product_trial.proofs.Keeping.{compared_better, compared_not}
-use borrow.Author.Rules.{rules}
 use Rattle.search_product_trial.proofs.inner.Best.or_product.Goals as goal
 
 pub returns-then-is_better : goal.returns-then-is_better

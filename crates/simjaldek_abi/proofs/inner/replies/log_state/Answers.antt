@@ -2,7 +2,6 @@
 use mathlib.Core.Path.{ap}
 use Prim.Native.Nat.{ℕ}
 use Rattle.simjaldek_abi.specs.declared.LogState.{LogState}
-use borrow.Author.Rules.{rules}
 use Rattle.simjaldek_abi.proofs.inner.replies.log_state.Goals as goal
 
 pub returns : goal.returns

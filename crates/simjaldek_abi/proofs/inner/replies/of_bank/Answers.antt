@@ -3,7 +3,6 @@ use mathlib.Core.Path.{sym, ap, ◌∙◌}
 use Rattle.bank.specs.declared.BankAnswer.{BankAnswer}
 use Rattle.bank.specs.Build.{bank_says}
 use Rattle.simjaldek_abi.specs.Reply.{number_reply}
-use borrow.Author.Rules.{rules}
 use Rattle.simjaldek_abi.proofs.inner.replies.of_bank.Goals as goal
 
 pub returns-in-Built : goal.returns-in-Built

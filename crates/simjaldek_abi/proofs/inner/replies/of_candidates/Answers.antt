@@ -3,7 +3,6 @@ use mathlib.Core.Path.{sym, ap, ◌∙◌}
 use Rattle.search_candidates.specs.declared.CandidatesAnswer.{CandidatesAnswer}
 use Rattle.search_candidates.specs.Candidates.{candidates_say}
 use Rattle.simjaldek_abi.specs.Reply.{option_reply}
-use borrow.Author.Rules.{rules}
 use Rattle.simjaldek_abi.proofs.inner.replies.of_candidates.Goals as goal
 
 pub returns-in-Used : goal.returns-in-Used

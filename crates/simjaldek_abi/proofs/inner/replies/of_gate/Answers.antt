@@ -8,7 +8,6 @@ use Rattle.simjaldek_abi.specs.Slices.{row_in, two_short, gate_refusal}
 use Rattle.simjaldek_abi.specs.Reply.{gate_call}
 use Rattle.simjaldek_abi.proofs.Early.{row-early, row-call, gate_numbered, gate-long, two-long, same3, gate_undone, gate-done}
 use native.Mathlib.Omega.{arith}
-use borrow.Author.Rules.{rules}
 use Rattle.simjaldek_abi.proofs.inner.replies.of_gate.Goals as goal
 
 pub returns-then-refusal-ne0 : goal.returns-then-refusal-ne0

@@ -4,7 +4,6 @@ use Prim.Native.Nat.{ℕ}
 use Rattle.index.specs.declared.IndexAnswer.{IndexAnswer}
 use Rattle.index.specs.Build.{index_says}
 use Rattle.simjaldek_abi.specs.Reply.{index_reply, reply}
-use borrow.Author.Rules.{rules}
 use Rattle.simjaldek_abi.proofs.inner.replies.of_index.Goals as goal
 
 pub returns-in-Built : goal.returns-in-Built

@@ -3,7 +3,6 @@ use mathlib.Core.Path.{sym, ap, ◌∙◌}
 use Rattle.row_gates.specs.declared.Match.{Match}
 use Rattle.row_gates.specs.Gates.{match_says}
 use Rattle.simjaldek_abi.specs.Reply.{match_reply}
-use borrow.Author.Rules.{rules}
 use Rattle.simjaldek_abi.proofs.inner.replies.of_match.Goals as goal
 
 pub returns-in-Same : goal.returns-in-Same

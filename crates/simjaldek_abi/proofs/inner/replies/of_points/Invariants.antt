@@ -1,14 +1,9 @@
 -- `simjaldek_abi::inner::replies::of_points` meets its contract: the points copied and those still to come are the sixteen. Assumes nothing.
-use mathlib.Core.Path.{◌≡◌, refl, sym, ap, ◌∙◌}
-use mathlib.Core.List.{List, ◌++◌, map, append-nil}
-use Prim.Native.Nat.{ℕ, ◌-◌, ◌≤◌}
-use lib.ListN.{length, take, drop, length-set, drop_of_length-le}
-use lib.Seq.{take_all}
-use Rattle.probe_points.specs.declared.Point.{Point}
+use mathlib.Core.Path.{◌≡◌}
+use mathlib.Core.List.{◌++◌, map}
+use Prim.Native.Nat.{◌-◌, ◌≤◌}
+use lib.ListN.{length, take, drop}
 use Rattle.simjaldek_abi.specs.Reply.{point_words}
-use Rattle.simjaldek_abi.proofs.Loading.{words_more}
-use borrow.Author.Rules.{rules}
-use native.Mathlib.Omega.{arith}
 use Rattle.simjaldek_abi.proofs.inner.replies.of_points.Given as goal
 
 abbrev pub invariant-loop-k : goal.invariant-loop-k

@@ -3,7 +3,6 @@ use mathlib.Core.Path.{sym, ap, ◌∙◌}
 use Rattle.search_product.specs.declared.ProductAnswer.{ProductAnswer}
 use Rattle.search_product.specs.Answer.{product_says}
 use Rattle.simjaldek_abi.specs.Reply.{product_reply}
-use borrow.Author.Rules.{rules}
 use Rattle.simjaldek_abi.proofs.inner.replies.of_product.Goals as goal
 
 pub returns-in-Atoms : goal.returns-in-Atoms

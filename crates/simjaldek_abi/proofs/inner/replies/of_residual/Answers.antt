@@ -5,7 +5,6 @@ use Rattle.search_residual.specs.declared.ResidualAnswer.{ResidualAnswer}
 use Rattle.search_residual.specs.Answer.{residual_says}
 use Rattle.simjaldek_abi.specs.declared.ResidualReply.{ResidualReply}
 use Rattle.simjaldek_abi.specs.Reply.{completed, residual_reply}
-use borrow.Author.Rules.{rules}
 use Rattle.simjaldek_abi.proofs.inner.replies.of_residual.Goals as goal
 
 -- the gate's number is known by an equation

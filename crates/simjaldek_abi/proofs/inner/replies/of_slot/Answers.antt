@@ -3,7 +3,6 @@ use mathlib.Core.Path.{sym, ap, ◌∙◌}
 use Rattle.bank_lookup.specs.declared.FoundRow.{FoundRow}
 use Rattle.bank_lookup.specs.Lookup.{found_says}
 use Rattle.simjaldek_abi.specs.Reply.{option_reply}
-use borrow.Author.Rules.{rules}
 use Rattle.simjaldek_abi.proofs.inner.replies.of_slot.Goals as goal
 
 pub returns-in-At : goal.returns-in-At

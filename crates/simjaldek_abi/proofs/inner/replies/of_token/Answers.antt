@@ -3,7 +3,6 @@ use mathlib.Core.Path.{sym, ap, ◌∙◌}
 use Prim.Native.Nat.{ℕ}
 use Rattle.expr.specs.declared.Token.{Token}
 use Rattle.simjaldek_abi.specs.Reply.{token_parts, token_reply}
-use borrow.Author.Rules.{rules}
 use Rattle.simjaldek_abi.proofs.inner.replies.of_token.Goals as goal
 
 pub returns-in-Constant : goal.returns-in-Constant

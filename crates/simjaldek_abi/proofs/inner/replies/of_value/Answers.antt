@@ -3,7 +3,6 @@ use mathlib.Core.Path.{sym, ap}
 use Rattle.expr_eval.specs.declared.Value.{Value}
 use Rattle.expr_eval.specs.Answers.{value_says}
 use Rattle.simjaldek_abi.specs.Reply.{word_reply}
-use borrow.Author.Rules.{rules}
 use Rattle.simjaldek_abi.proofs.inner.replies.of_value.Goals as goal
 
 pub returns-in-Word : goal.returns-in-Word

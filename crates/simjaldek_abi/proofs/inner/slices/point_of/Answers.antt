@@ -2,7 +2,6 @@
 use mathlib.Core.Path.{ap, ◌∙◌}
 use mathlib.Core.List.{List}
 use Prim.Native.Nat.{ℕ}
-use borrow.Author.Rules.{rules}
 use Rattle.arrays.proofs.Parts.{part_is}
 use Rattle.probe_points.specs.declared.Point.{Point}
 use Rattle.simjaldek_abi.proofs.inner.slices.point_of.Goals as goal

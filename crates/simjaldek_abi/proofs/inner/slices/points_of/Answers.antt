@@ -1,12 +1,11 @@
 -- `simjaldek_abi::inner::slices::points_of` meets its contract: the points loaded and those still to come are the sixteen. Assumes nothing.
 use mathlib.Core.Path.{◌≡◌, refl, sym, ap, ◌∙◌}
 use mathlib.Core.List.{◌++◌, append-nil}
-use Prim.Native.Nat.{ℕ, ◌-◌, ◌≤◌}
-use lib.ListN.{length, take, length-set}
+use Prim.Native.Nat.{ℕ, ◌-◌}
+use lib.ListN.{take, length-set}
 use lib.Seq.{take_all}
-use Rattle.simjaldek_abi.specs.Slices.{points_from, points_in}
+use Rattle.simjaldek_abi.specs.Slices.{points_from}
 use Rattle.simjaldek_abi.proofs.Loading.{point-more}
-use borrow.Author.Rules.{rules}
 use native.Mathlib.Omega.{arith}
 use Rattle.simjaldek_abi.proofs.inner.slices.points_of.Goals as goal
 

@@ -2,7 +2,6 @@
 use mathlib.Core.Path.{refl, sym, ◌∙◌}
 use borrow.Author.Tests.{lt-ltb, le-ltb}
 use Rattle.limits.proofs.Refusals.{refused_here, refused-later}
-use borrow.Author.Rules.{rules}
 use Rattle.simjaldek_abi.proofs.inner.slices.row_refusal.Goals as goal
 
 pub returns-then-bad_width : goal.returns-then-bad_width

@@ -1,7 +1,6 @@
 -- `simjaldek_abi::inner::slices::three_short` meets its contract: one of the first two is short, or the third. Assumes nothing.
 use mathlib.Core.Path.{refl, sym, ◌∙◌}
 use Rattle.limits.proofs.Refusals.{or_here, or_later}
-use borrow.Author.Rules.{rules}
 use Rattle.simjaldek_abi.proofs.inner.slices.three_short.Goals as goal
 
 pub returns-then-two_short : goal.returns-then-two_short

@@ -1,6 +1,5 @@
 -- `text_print::inner::decimal::digits_of` meets its contract: the pairs in their lanes, and in each its digits. Assumes nothing.
 use native.Mathlib.Omega.{arith}
-use borrow.Author.Rules.{rules}
 use Prim.Native.Nat.{◌/◌, ◌%◌, ◌^◌, ◌<◌}
 use Rattle.text_print.proofs.Lanes.{pairs_of, pairs_below, digits-left, digits-fit}
 use Rattle.text_print.proofs.inner.decimal.digits_of.Goals as goal

@@ -1,12 +1,11 @@
 -- `text_print::inner::decimal::put` meets its contract: the first i bytes of s are written. Assumes nothing.
-use mathlib.Core.Path.{◌≡◌, ◌∙◌, ap, sym, refl}
-use Prim.Native.Nat.{◌+◌, ◌-◌, ◌≤◌, ℕ}
+use mathlib.Core.Path.{◌∙◌, ap, sym, refl}
+use Prim.Native.Nat.{◌-◌, ℕ}
 use native.Mathlib.Omega.{arith}
 use native.Mathlib.Numerals.{add-one}
 use borrow.Author.Rules.{rules}
-use lib.ListN.{length, take, length-set}
+use lib.ListN.{take, length-set}
 use lib.Seq.{take-suc, take_all}
-use Rattle.text_print.specs.Printing.{Wrote}
 use Rattle.text_print.proofs.Decimals.{one_more, reads, moved}
 use Rattle.text_print.proofs.inner.decimal.put.Goals as goal
 

@@ -7,6 +7,6 @@ use Rattle.text_print.proofs.inner.decimal.put_four.Goals as goal
 pub returns : goal.returns
 unfolding four_of
 returns c = record {
-      wrote = then c.put_two-p.ensures.wrote c.put_two.ensures.wrote;
-      value = search rules;
-    }
+  wrote = then c.put_two-p.ensures.wrote c.put_two.ensures.wrote;
+  value = search rules;
+}

@@ -10,6 +10,6 @@ bounds-out-at-2 c = simp length-set (omega arith)
 
 pub returns : goal.returns
 returns c = record {
-      wrote = two _ _;
-      value = search rules;
-    }
+  wrote = two _ _;
+  value = search rules;
+}

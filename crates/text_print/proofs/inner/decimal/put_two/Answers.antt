@@ -12,6 +12,6 @@ bounds-out-at-2 c = simp length-set (omega arith)
 pub returns : goal.returns
 unfolding two_of
 returns c = record {
-      wrote = two _ _;
-      value = search rules;
-    }
+  wrote = two _ _;
+  value = search rules;
+}

@@ -1,5 +1,4 @@
 -- `text_print::inner::decimal::tens_of` meets its contract: the rule of 103 / 1024, lane by lane. Assumes nothing.
-use borrow.Author.Rules.{rules}
 use Rattle.text_print.proofs.Lanes.{tenths}
 use Rattle.text_print.proofs.inner.decimal.tens_of.Goals as goal
 

@@ -7,6 +7,6 @@ use Rattle.text_print.proofs.inner.decimal.write_four.Goals as goal
 
 pub returns : goal.returns
 returns c = record {
-      wrote = reads (sym (decimal_twos c.args.x (omega arith) (search rules))) (then c.write_two-p.ensures.wrote c.put_two.ensures.wrote);
-      upper_bound = omega (arith, c.write_two-p.ensures.upper_bound, c.put_two.ensures.value);
-    }
+  wrote = reads (sym (decimal_twos c.args.x (omega arith) (search rules))) (then c.write_two-p.ensures.wrote c.put_two.ensures.wrote);
+  upper_bound = omega (arith, c.write_two-p.ensures.upper_bound, c.put_two.ensures.value);
+}

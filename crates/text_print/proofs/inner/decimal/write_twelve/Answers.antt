@@ -7,6 +7,6 @@ use Rattle.text_print.proofs.inner.decimal.write_twelve.Goals as goal
 
 pub returns : goal.returns
 returns c = record {
-      wrote = reads (sym (decimal_eights c.args.x (omega arith) (search rules))) (then c.write_four-p.ensures.wrote c.put_eight.ensures.wrote);
-      upper_bound = omega (arith, c.write_four-p.ensures.upper_bound, c.put_eight.ensures.value);
-    }
+  wrote = reads (sym (decimal_eights c.args.x (omega arith) (search rules))) (then c.write_four-p.ensures.wrote c.put_eight.ensures.wrote);
+  upper_bound = omega (arith, c.write_four-p.ensures.upper_bound, c.put_eight.ensures.value);
+}

@@ -1,5 +1,4 @@
 -- `text_print::inner::formulas::gate_sign` meets its contract, gate by gate. Assumes nothing.
-use borrow.Author.Rules.{rules}
 use Rattle.text_print.specs.Printing.{sign_of}
 use Rattle.text_print.proofs.inner.formulas.gate_sign.Goals as goal
 

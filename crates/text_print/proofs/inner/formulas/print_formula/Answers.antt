@@ -1,10 +1,9 @@
 -- `text_print::inner::formulas::print_formula` meets its contract: the first i tokens are written. Assumes nothing.
-use mathlib.Core.Path.{◌≡◌, ap}
-use Prim.Native.Nat.{ℕ, ◌+◌, ◌-◌, ◌*◌, ◌≤◌}
+use mathlib.Core.Path.{ap}
+use Prim.Native.Nat.{ℕ, ◌-◌}
 use native.Mathlib.Omega.{arith}
 use borrow.Author.Rules.{rules}
-use lib.ListN.{length, length-set}
-use Rattle.text_print.specs.Printing.{Wrote, next_max}
+use lib.ListN.{length-set}
 use Rattle.text_print.specs.Text.{tokens_text, formula_line}
 use Rattle.expr.specs.Formula.{tokens}
 use Rattle.text_print.proofs.Decimals.{then, reads, one_more, nothing}
@@ -29,6 +28,6 @@ shape_of-out c = simp length-set (omega arith)
 pub returns : goal.returns
 unfolding formula_line
 returns c = let a = c.args in record {
-      wrote = reads (ap (λ (k : ℕ). formula_line (tokens k a.ops.now a.operands.now)) (omega arith)) (one_more _ c.loop-i.invariant.3);
-      upper_bound = omega arith;
-    }
+  wrote = reads (ap (λ (k : ℕ). formula_line (tokens k a.ops.now a.operands.now)) (omega arith)) (one_more _ c.loop-i.invariant.3);
+  upper_bound = omega arith;
+}

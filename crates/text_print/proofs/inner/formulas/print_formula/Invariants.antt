@@ -1,14 +1,10 @@
 -- `text_print::inner::formulas::print_formula` meets its contract: the first i tokens are written. Assumes nothing.
-use mathlib.Core.Path.{◌≡◌, ap}
-use Prim.Native.Nat.{ℕ, ◌+◌, ◌-◌, ◌*◌, ◌≤◌}
-use native.Mathlib.Omega.{arith}
-use borrow.Author.Rules.{rules}
-use lib.ListN.{length, length-set}
+use mathlib.Core.Path.{◌≡◌}
+use Prim.Native.Nat.{◌+◌, ◌-◌, ◌*◌, ◌≤◌}
+use lib.ListN.{length}
 use Rattle.text_print.specs.Printing.{Wrote, next_max}
-use Rattle.text_print.specs.Text.{tokens_text, formula_line}
+use Rattle.text_print.specs.Text.{tokens_text}
 use Rattle.expr.specs.Formula.{tokens}
-use Rattle.text_print.proofs.Decimals.{then, reads, one_more, nothing}
-use Rattle.text_print.proofs.Listings.{token_more}
 use Rattle.text_print.proofs.inner.formulas.print_formula.Given as goal
 
 abbrev pub invariant-loop-i : goal.invariant-loop-i

@@ -1,10 +1,9 @@
 -- `text_print::inner::formulas::print_formulas` meets its contract: the first k formulas are written. Assumes nothing.
-use mathlib.Core.Path.{◌≡◌, ap}
-use Prim.Native.Nat.{◌+◌, ◌-◌, ◌*◌, ◌≤◌}
+use mathlib.Core.Path.{ap}
+use Prim.Native.Nat.{◌-◌}
 use native.Mathlib.Omega.{arith}
 use borrow.Author.Rules.{rules}
-use lib.ListN.{length}
-use Rattle.text_print.specs.Printing.{Wrote, formula_max, lines_text, formula_at}
+use Rattle.text_print.specs.Printing.{lines_text, formula_at}
 use Rattle.text_print.proofs.Decimals.{reads}
 use Rattle.text_print.proofs.Listings.{no_lines, line-more, formula-at}
 use Rattle.text_print.proofs.inner.formulas.print_formulas.Goals as goal
@@ -29,6 +28,6 @@ loop-k-preserved c = let a = c.args in
 
 pub returns : goal.returns
 returns c = record {
-      wrote = reads (ap (lines_text (formula_at c.args.lengths.now c.args.ops.now c.args.operands.now)) (omega arith)) c.loop-k.invariant.3;
-      upper_bound = search rules;
-    }
+  wrote = reads (ap (lines_text (formula_at c.args.lengths.now c.args.ops.now c.args.operands.now)) (omega arith)) c.loop-k.invariant.3;
+  upper_bound = search rules;
+}

@@ -1,12 +1,8 @@
 -- `text_print::inner::formulas::print_formulas` meets its contract: the first k formulas are written. Assumes nothing.
-use mathlib.Core.Path.{◌≡◌, ap}
+use mathlib.Core.Path.{◌≡◌}
 use Prim.Native.Nat.{◌+◌, ◌-◌, ◌*◌, ◌≤◌}
-use native.Mathlib.Omega.{arith}
-use borrow.Author.Rules.{rules}
 use lib.ListN.{length}
 use Rattle.text_print.specs.Printing.{Wrote, formula_max, lines_text, formula_at}
-use Rattle.text_print.proofs.Decimals.{reads}
-use Rattle.text_print.proofs.Listings.{no_lines, line-more, formula-at}
 use Rattle.text_print.proofs.inner.formulas.print_formulas.Given as goal
 
 abbrev pub invariant-loop-k : goal.invariant-loop-k

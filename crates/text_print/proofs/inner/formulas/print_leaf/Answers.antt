@@ -1,6 +1,5 @@
 -- `text_print::inner::formulas::print_leaf` meets its contract: a byte, and the digits after it. Assumes nothing.
 use native.Mathlib.Omega.{arith}
-use borrow.Author.Rules.{rules}
 use lib.ListN.{length-set}
 use Rattle.text_print.proofs.Decimals.{decimal-length, one, then, wrote-length}
 use Rattle.text_print.proofs.inner.formulas.print_leaf.Goals as goal
@@ -13,6 +12,6 @@ shape_of-out c = let a = c.args in wrote-length {l = a.out.now} (then (one a.let
 
 pub returns : goal.returns
 returns c = record {
-      wrote = then (one _) c.write_decimal.ensures;
-      upper_bound = omega (arith, c.write_decimal.ensures.next, decimal-length c.args.x);
-    }
+  wrote = then (one _) c.write_decimal.ensures;
+  upper_bound = omega (arith, c.write_decimal.ensures.next, decimal-length c.args.x);
+}

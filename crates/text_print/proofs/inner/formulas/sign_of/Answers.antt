@@ -1,5 +1,4 @@
 -- `text_print::inner::formulas::sign_of` meets its contract, token by token. Assumes nothing.
-use borrow.Author.Rules.{rules}
 use Rattle.text_print.specs.Printing.{sign_of}
 use Rattle.text_print.proofs.inner.formulas.sign_of.Goals as goal
 

@@ -1,10 +1,9 @@
 -- `text_print::inner::lines::print_lines` meets its contract: the first k lines are written. Assumes nothing.
-use mathlib.Core.Path.{◌≡◌, ap}
-use Prim.Native.Nat.{◌+◌, ◌-◌, ◌*◌, ◌≤◌}
+use mathlib.Core.Path.{ap}
+use Prim.Native.Nat.{◌-◌}
 use native.Mathlib.Omega.{arith}
 use borrow.Author.Rules.{rules}
-use lib.ListN.{length}
-use Rattle.text_print.specs.Printing.{Wrote, numbers_max, lines_text, numbers_at}
+use Rattle.text_print.specs.Printing.{lines_text, numbers_at}
 use Rattle.text_print.proofs.Decimals.{reads}
 use Rattle.text_print.proofs.Listings.{no_lines, line-more}
 use Rattle.text_print.proofs.inner.lines.print_lines.Goals as goal
@@ -17,6 +16,6 @@ loop-k-preserved c = (search rules, search rules, search rules, line-more _ _ c.
 
 pub returns : goal.returns
 returns c = record {
-      wrote = reads (ap (lines_text (numbers_at c.args.numbers.now)) (omega arith)) c.loop-k.invariant.3;
-      upper_bound = search rules;
-    }
+  wrote = reads (ap (lines_text (numbers_at c.args.numbers.now)) (omega arith)) c.loop-k.invariant.3;
+  upper_bound = search rules;
+}

@@ -1,12 +1,8 @@
 -- `text_print::inner::lines::print_lines` meets its contract: the first k lines are written. Assumes nothing.
-use mathlib.Core.Path.{◌≡◌, ap}
+use mathlib.Core.Path.{◌≡◌}
 use Prim.Native.Nat.{◌+◌, ◌-◌, ◌*◌, ◌≤◌}
-use native.Mathlib.Omega.{arith}
-use borrow.Author.Rules.{rules}
 use lib.ListN.{length}
 use Rattle.text_print.specs.Printing.{Wrote, numbers_max, lines_text, numbers_at}
-use Rattle.text_print.proofs.Decimals.{reads}
-use Rattle.text_print.proofs.Listings.{no_lines, line-more}
 use Rattle.text_print.proofs.inner.lines.print_lines.Given as goal
 
 abbrev pub invariant-loop-k : goal.invariant-loop-k
