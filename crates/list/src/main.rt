@@ -1,18 +1,29 @@
 // The listing program: reads a text from standard input to its end, and writes the listing of the bank and the index that it asks for, or its refusal.
 #![tactic(auto)]
 
-use listing::ListingAnswer;
-use std::io;
+ghost use Rattle.std.specs.Prelude.{◌+◌, ◌^◌, ◌<◌, length, OnOk, IfSome};
+ghost use Rattle.std.specs.Io.KnownBytes.{Appends};
+ghost use Rattle.listing.specs.Listing.{listing};
 
-// A read or a write that fails is an error; after a read that fails nothing is listed. The buffer is as long as refusal 4 asks.
-fn main(rt: HostRuntime) -> io::Result<()> {
-    let t = text_io::read_all(&mut rt.stdin())?;
+use listing::ListingAnswer;
+use std::io::{self, Read, Write};
+
+// The program over any reader and writer: what is written is the listing of the text that is read. The buffer is as long as refusal 4 asks.
+fn run<R: Read, W: Write>(reader: &mut R, writer: &mut W) -> io::Result<()>
+    ensures { OnOk result (IfSome (R.remaining reader.old) (λ text. length text + 1 < 2 ^ 64 → Appends (W.contents writer.old) (W.contents writer.new) (listing text))) }
+{
+    let t = text_io::read_all(reader)?;
     let mut text = [0u8; 131072];
     match listing::write_listing(&mut text, t.parse) {
         ListingAnswer::Written(n) => {
-            text_io::write_text(&mut rt.stdout(), &text, n)?;
+            text_io::write_text(writer, &text, n)?;
+            Ok(())
         }
-        ListingAnswer::Refused(_) => {}
+        ListingAnswer::Refused(_) => Ok(()),
     }
-    Ok(())
+}
+
+// A read or a write that fails is an error; after a read that fails nothing is listed.
+fn main(rt: HostRuntime) -> io::Result<()> {
+    run(&mut rt.stdin(), &mut rt.stdout())
 }
