@@ -282,7 +282,7 @@ fn end_file(rt: &impl Eprint, numbers: &mut [u64], out: &mut [u8], p: Progress) 
 }
 
 // A whole file, its lines counted anew; one that isn't read to its end is named on standard error, and counts as a difference.
-fn compare_file(rt: &impl Eprint, path: &str, file: &mut impl Read, mut t: Tally) -> Tally {
+fn compare_file(rt: &impl Eprint, file: &mut impl Read, mut t: Tally) -> Tally {
     t.lines = 0;
     let mut numbers = [0u64; LINE_NUMBERS];
     let mut out = [0u8; compare_texts::PRINTED_MAX];
@@ -296,7 +296,6 @@ fn compare_file(rt: &impl Eprint, path: &str, file: &mut impl Read, mut t: Tally
     let state = q.state;
     let mut end = end_file(rt, &mut numbers, &mut out, q);
     if state != 1 {
-        let _ = eprintln!(rt; "{path}: not read to its end");
         end.different = one_more(end.different);
     }
     end
@@ -305,7 +304,7 @@ fn compare_file(rt: &impl Eprint, path: &str, file: &mut impl Read, mut t: Tally
 // The file at a path; one that can't be opened is named on standard error, and counts as a difference.
 fn compare_path(rt: &(impl Files + Eprint), path: &str, mut t: Tally) -> Tally {
     match fs::open(rt, path) {
-        Ok(mut file) => compare_file(rt, path, &mut file, t),
+        Ok(mut file) => compare_file(rt, &mut file, t),
         Err(error) => {
             let _ = eprintln!(rt; "{path}: {error}");
             t.different = one_more(t.different);
