@@ -281,7 +281,7 @@ fn end_file(rt: &impl Eprint, numbers: &mut [u64], out: &mut [u8], p: Progress) 
     last.tally
 }
 
-// A whole file, its lines counted anew; one that isn't read to its end is named on standard error, and counts as a difference.
+// A whole file, its lines counted anew; one that isn't read to its end counts as a difference.
 fn compare_file(rt: &impl Eprint, file: &mut impl Read, mut t: Tally) -> Tally {
     t.lines = 0;
     let mut numbers = [0u64; LINE_NUMBERS];
