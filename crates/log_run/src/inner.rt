@@ -441,7 +441,7 @@ pub fn take(
     records: &[u64],
 ) -> Took
     requires { length seen.old ≡ 8 }
-    ensures { took_says (record { windows = seen.old; shown = shown; begun = begun }) seen.new result ≡ logged nv w (rules_in count ranks.now ms.now windows.entry.now token_counts.now ops.now operands.now) (record { windows = seen.old; shown = shown; begun = begun }) n records.now }
+    ensures { took_says (record { windows = seen.old; shown = shown; begun = begun }) seen.new result ≡ logged nv w (rules_in count ranks.now ms.now windows.now token_counts.now ops.now operands.now) (record { windows = seen.old; shown = shown; begun = begun }) n records.now }
 {
     let refusal = log_rules::inner::lent_refusal(
         count,
