@@ -79,6 +79,16 @@ def place_of(tokens, text, i):
     return i
 
 
+def after_angles(tokens, i):
+    """The place after the angle brackets that open at i."""
+    depth = 0
+    while True:
+        depth += {'<': 1, '>': -1, '<<': 2, '>>': -2}.get(tokens[i].text, 0)
+        i += 1
+        if depth == 0:
+            return i
+
+
 def split_at_commas(tokens, first, last):
     """The parts (first, last) between the commas that no inner bracket has."""
     parts, depth, at = [], 0, first
@@ -170,7 +180,7 @@ class Source:
         tokens = self.tokens
         at = i + 2
         if tokens[at].text == '<':
-            at = place_of(tokens, '>', at) + 1
+            at = after_angles(tokens, at)
         close = close_of(tokens, at)
         params = []
         for part in split_at_commas(tokens, at + 1, close):

@@ -1,4 +1,2 @@
-// What arrays hold, as lists: parts of stride s, loops that fill an array, elements at places. Beside the laws there is the copying of a slice.
+// What arrays hold, as lists: parts of stride s, loops that fill an array, elements at places. Laws for the crates above; there is no code.
 #![tactic(auto)]
-
-pub mod inner;

@@ -1,20 +1,20 @@
 -- Laws of the call `build_bank`: what its refusals leave to the build, and what it answers. Assumes nothing.
-use mathlib.Core.Path.{◌≡◌, refl, sym, ap, ◌∙◌}
-use mathlib.Core.Logic.{◌⊎◌, inl, inr}
-use mathlib.Core.Bool.{Bool, true, false, cond, ◌||◌}
+use mathlib.Core.Path.{◌≡◌, sym, ap, ◌∙◌}
+use mathlib.Core.Bool.{false, ◌||◌}
 use mathlib.Core.List.{List}
-use Prim.Native.Nat.{ℕ, ◌*◌, ◌^◌, ◌≤◌, ◌<◌}
+use Rattle.std.specs.Prelude.{Ok}
+use Prim.Native.Nat.{ℕ, ◌*◌, ◌^◌, ◌≤◌}
 use native.Mathlib.Omega.{arith}
-use borrow.Author.Tests.{lt-ltb, ltb-false}
+use borrow.Author.Tests.{ltb-false}
 use lib.Dec.{ltb}
 use lib.ListN.{length}
-use Rattle.limits.specs.Refusal.{refuse, unless_refused, bad_count, bad_width, refused, answer, outcome}
-use Rattle.limits.proofs.Refusals.{le_or_lt, true_not_false, within, passed, neither}
+use Rattle.limits.specs.Refusal.{refuse, bad_count, bad_width, answer}
+use Rattle.limits.proofs.Refusals.{true_not_false, within, passed, neither}
+use Rattle.limits.proofs.Answers.{says_ok, unless_ok}
 use Rattle.probe_points.specs.declared.Point.{Point}
 use Rattle.bank_spec.specs.Encoding.{Arrays, written}
 use Rattle.bank_spec.specs.Bank.{bank_of}
 use Rattle.bank_spec.proofs.Banks.{bank-few}
-use Rattle.bank.specs.declared.BankAnswer.TheVariants.{Built, Refused}
 use Rattle.row_lent.specs.Range.{reaches}
 use Rattle.bank.specs.Build.{sizes_of, too_small, points_reach, bank_refusal, BankBuilt}
 use Rattle.bank_unary.specs.Phases.{Asked, Phase, Fits}
@@ -69,27 +69,10 @@ module _ (nv w : ℕ) (points : List Point) (target : List ℕ) (a : Arrays) (wo
   pub built-few : (a' : Arrays) (work' : List ℕ) (r : ℕ) → Asked nv w → Phase a a' work' r (bank_of nv w points target) → r ≤ 479
   built-few a' work' r asked p = omega (arith, p.bank.count, bank-few nv w points target asked.most)
 
-  -- refused: all as it was
-  pub built-refused : (n : ℕ) → n ≡ number → (n ≡ 0 → ⊥) → BankBuilt nv w points target a a work work (Refused n)
-  built-refused n e h =
-      let t : ltb 0 n ≡ true = lt-ltb 0 n (positive n h) in
-      record {
-        result = sym (ap (λ (b : Bool). cond b (refused n) (answer count)) t) ∙ ap (λ (m : ℕ). outcome m count) e;
-        arrays = sym (ap (λ (b : Bool). cond b a (written (bank_of nv w points target) a)) t) ∙ ap (λ (m : ℕ). unless_refused m (written (bank_of nv w points target) a) a) e;
-        work = λ _. refl;
-      }
-    where
-      positive : (n : ℕ) → (n ≡ 0 → ⊥) → 0 < n
-      positive n h = go (le_or_lt n 0)
-        where
-          go : (n ≤ 0) ⊎ (0 < n) → 0 < n
-          go (inl l) = absurd (h (omega arith))
-          go (inr l) = l
-
   -- nothing refused: the bank over what was there
-  pub built-built : (a' : Arrays) (work' : List ℕ) (r : ℕ) → number ≡ 0 → Phase a a' work' r (bank_of nv w points target) → BankBuilt nv w points target a a' work work' (Built r)
+  pub built-built : (a' : Arrays) (work' : List ℕ) (r : ℕ) → 0 ≡ number → Phase a a' work' r (bank_of nv w points target) → BankBuilt nv w points target a a' work work' (Ok r)
   built-built a' work' r e p = record {
-    result = ap answer p.bank.count ∙ sym (ap (λ (m : ℕ). outcome m count) e);
-    arrays = p.bank.arrays ∙ sym (ap (λ (m : ℕ). unless_refused m (written (bank_of nv w points target) a) a) e);
-    work = λ h. absurd (true_not_false (sym h ∙ ap (λ (m : ℕ). ltb 0 m) e));
+    result = ap answer p.bank.count ∙ says_ok number count e;
+    arrays = p.bank.arrays ∙ sym (unless_ok number (written (bank_of nv w points target) a) a e);
+    work = λ h. absurd (true_not_false (sym h ∙ ap (λ (m : ℕ). ltb 0 m) (sym e)));
   }

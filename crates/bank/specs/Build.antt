@@ -1,14 +1,13 @@
 -- What a bank build is asked for and what it leaves. Assumes nothing.
-use Rattle.std.specs.Prelude.{◌≡◌, Bool, true, false, ◌||◌, List, [], ◌∷◌, ℕ, ◌*◌, ◌^◌, ltb, length, take}
-use Rattle.limits.specs.Refusal.{refuse, unless_refused, bad_count, bad_width, Outcome, refused, answer, outcome}
+use Rattle.std.specs.Prelude.{◌≡◌, Bool, true, false, ◌||◌, List, [], ◌∷◌, ℕ, ◌*◌, ◌^◌, ltb, length, take, Result}
+use Rattle.limits.specs.Refusal.{refuse, unless_refused, bad_count, bad_width, says, outcome}
+use Rattle.limits.specs.declared.Refusal.{Refusal}
 use Rattle.limits.specs.Limits.{atoms_max}
 use Rattle.row_lent.specs.Range.{reaches}
 use Rattle.probe_points.specs.declared.Point.{Point}
 use Rattle.bank_spec.specs.Bank.{bank_of}
 use Rattle.bank_spec.specs.Encoding.{Arrays, written}
 use Rattle.bank.specs.declared.Sizes.{Sizes}
-use Rattle.bank.specs.declared.BankAnswer.{BankAnswer}
-use Rattle.bank.specs.declared.BankAnswer.TheVariants.{Built, Refused}
 
 -- the lengths of the six lent arrays
 abbrev pub sizes_of : Arrays → List ℕ → Sizes
@@ -45,13 +44,8 @@ bank_refusal nv w points target sizes =
     (refuse (too_small sizes) 4
     (refuse (points_reach (2 ^ w) nv points || reaches (2 ^ w) target) 5 0)))
 
--- 01, Expected forms: what each case of `BankAnswer` says: its refusal, or how many atoms there are
-abbrev pub bank_says : BankAnswer → Outcome ℕ
-bank_says (Built count) = answer count
-bank_says (Refused number) = refused number
-
--- 01, Agreed between us: the result and the final contents of every array. The work area is the program's own where nothing is refused
-pub record BankBuilt (nv w : ℕ) (points : List Point) (target : List ℕ) (old now : Arrays) (old_work nowWork : List ℕ) (r : BankAnswer) : Type 0 where
-  pub result : bank_says r ≡ outcome (bank_refusal nv w points target (sizes_of old old_work)) (length (bank_of nv w points target))
+-- 01, Agreed between us: the result (how many atoms there are) and the final contents of every array. The work area is the program's own where nothing is refused
+pub record BankBuilt (nv w : ℕ) (points : List Point) (target : List ℕ) (old now : Arrays) (old_work nowWork : List ℕ) (r : Result ℕ Refusal) : Type 0 where
+  pub result : says r ≡ outcome (bank_refusal nv w points target (sizes_of old old_work)) (length (bank_of nv w points target))
   pub arrays : now ≡ unless_refused (bank_refusal nv w points target (sizes_of old old_work)) (written (bank_of nv w points target) old) old
   pub work : ltb 0 (bank_refusal nv w points target (sizes_of old old_work)) ≡ true → nowWork ≡ old_work

@@ -1,15 +1,32 @@
 // The refusals of a bank build.
 ghost use Rattle.std.specs.Prelude.{◌≡◌, ◌^◌, ◌≤◌, take};
+ghost use Rattle.limits.specs.Refusal.{refusal_of};
 ghost use Rattle.row_lent.specs.Range.{reaches};
-ghost use Rattle.bank.specs.Build.{too_small, points_reach, bank_refusal};
+ghost use Rattle.bank_parts.specs.Lent.{arrays_of};
+ghost use Rattle.bank.specs.Build.{sizes_of, too_small, points_reach, bank_refusal};
 
 use crate::Sizes;
 use bank_atom::ATOM_TOKENS;
-use bank_parts::COST_NUMBERS;
+use bank_parts::{COST_NUMBERS, LentBank};
 use bank_push::WORK_WORDS;
-use limits::ATOMS_MAX;
-use probe_points::{POINTS, Point};
+use bank_unary::Setting;
+use limits::{ATOMS_MAX, Refusal};
+use probe_points::Point;
 use row_gates::ROW_WORDS;
+
+// The lengths of the arrays that are lent.
+pub fn sizes_of(bank: &LentBank<'_>, work: &[u32]) -> Sizes
+    ensures { result ≡ sizes_of (arrays_of bank.now) work.now }
+{
+    Sizes {
+        lengths: bank.lengths.len(),
+        ops: bank.ops.len(),
+        operands: bank.operands.len(),
+        costs: bank.costs.len(),
+        rows: bank.rows.len(),
+        work: work.len(),
+    }
+}
 
 // Whether an array is too short for 479 atoms.
 fn too_small(s: Sizes) -> bool
@@ -39,12 +56,10 @@ fn point_reaches(p: Point, nv: usize, w: u32) -> bool
     ensures { result ≡ reaches (2 ^ w) (take nv p.words) }
 {
     let mask = arith::bitmask(w);
-    let mut i: usize = 0;
-    while i < nv {
+    for i in 0..nv {
         if mask < p.words[i] {
             return true;
         }
-        i += 1;
     }
     false
 }
@@ -54,35 +69,32 @@ fn points_reach(points: [Point; 16], nv: usize, w: u32) -> bool
     requires { (nv ≤ 6) × (w ≤ 64) }
     ensures { result ≡ points_reach (2 ^ w) nv points }
 {
-    let mut k: usize = 0;
-    while k < POINTS {
-        let p = points[k];
+    for p in points {
         if point_reaches(p, nv, w) {
             return true;
         }
-        k += 1;
     }
     false
 }
 
-// The refusal of a bank build, 0 where there is none.
-pub fn bank_refusal(nv: u32, w: u32, points: [Point; 16], target: [u64; 16], sizes: Sizes) -> u32
-    ensures { result ≡ bank_refusal nv w points target sizes }
+// Whether a bank build is refused.
+pub fn check(setting: Setting, target: [u64; 16], sizes: Sizes) -> Result<(), Refusal>
+    ensures { refusal_of result ≡ bank_refusal setting.nv setting.w setting.points target sizes }
 {
-    if limits::inner::bad_count(nv) {
-        return 1;
+    if limits::inner::bad_count(setting.nv) {
+        return Err(Refusal::VariableCount);
     }
-    if limits::inner::bad_width(w) {
-        return 2;
+    if limits::inner::bad_width(setting.w) {
+        return Err(Refusal::Width);
     }
     if too_small(sizes) {
-        return 4;
+        return Err(Refusal::ShortArray);
     }
-    if points_reach(points, nv as usize, w) {
-        return 5;
+    if points_reach(setting.points, setting.nv as usize, setting.w) {
+        return Err(Refusal::LargeWord);
     }
-    if row_lent::inner::row_reaches(target, w) {
-        return 5;
+    if row_lent::inner::row_reaches(target, setting.w) {
+        return Err(Refusal::LargeWord);
     }
-    0
+    Ok(())
 }

@@ -3,10 +3,12 @@
 
 pub mod inner;
 
-ghost use Rattle.bank_parts.specs.Parts.{arrays};
+ghost use Rattle.bank_parts.specs.Lent.{arrays_of, SameSlices};
 ghost use Rattle.bank.specs.Build.{BankBuilt};
 
-use probe_points::Point;
+use bank_parts::LentBank;
+use bank_unary::Setting;
+use limits::Refusal;
 
 // The lengths of the lent arrays.
 #[derive(Clone, Copy)]
@@ -19,52 +21,18 @@ pub struct Sizes {
     pub work: usize,
 }
 
-// How many atoms there are, or a number of 01's table.
-#[derive(Clone, Copy)]
-pub enum BankAnswer {
-    Built(u32),
-    Refused(u32),
-}
-
-// Builds the bank of nv variables at width w over the points, with the target's seeds, into the lent arrays: the count of atoms.
-// Refuses 1, 2, 4, 5.
+// Builds the bank of the setting, with the target's seeds, into the lent arrays: the count of atoms. Refuses 1, 2, 4, 5.
 pub fn build_bank(
-    atom_lengths: &mut [u32],
-    atom_ops: &mut [u8],
-    atom_operands: &mut [u64],
-    atom_costs: &mut [u32],
-    atom_rows: &mut [u64],
+    bank: &mut LentBank<'_>,
     work: &mut [u32],
-    nv: u32,
-    w: u32,
-    points: [Point; 16],
+    setting: Setting,
     target: [u64; 16],
-) -> BankAnswer
-    ensures { BankBuilt nv w points target (arrays atom_lengths.old atom_ops.old atom_operands.old atom_costs.old atom_rows.old) (arrays atom_lengths.new atom_ops.new atom_operands.new atom_costs.new atom_rows.new) work.old work.new result }
+) -> Result<u32, Refusal>
+    ensures built { BankBuilt setting.nv setting.w setting.points target (arrays_of bank.old) (arrays_of bank.new) work.old work.new result }
+    ensures same { SameSlices bank.old bank.new }
 {
-    let sizes = Sizes {
-        lengths: atom_lengths.len(),
-        ops: atom_ops.len(),
-        operands: atom_operands.len(),
-        costs: atom_costs.len(),
-        rows: atom_rows.len(),
-        work: work.len(),
-    };
-    let number = inner::bank_refusal(nv, w, points, target, sizes);
-    if number != 0 {
-        return BankAnswer::Refused(number);
-    }
-    let count = bank_phases::inner::build(
-        atom_lengths,
-        atom_ops,
-        atom_operands,
-        atom_costs,
-        atom_rows,
-        work,
-        nv,
-        w,
-        points,
-        target,
-    );
-    BankAnswer::Built(count as u32)
+    let sizes = inner::sizes_of(bank, work);
+    inner::check(setting, target, sizes)?;
+    let count = bank_phases::inner::build(bank, work, setting, target);
+    Ok(count as u32)
 }

@@ -12,7 +12,7 @@ use Rattle.arrays.proofs.Lists.{get_d_map}
 use Rattle.row_gates.specs.Gates.{gate_row}
 use Rattle.row_gates.specs.declared.Gate.{Gate}
 use Rattle.expr.specs.declared.Token.{Token}
-use Rattle.expr.specs.declared.Token.TheVariants.{Constant, Variable, Binary, Not, Neg}
+use Rattle.expr.specs.declared.Token.TheVariants.{Constant, Variable, Binary}
 use Rattle.expr.specs.Formula.{opcode_of, operand_of, is_formula}
 use Rattle.expr_eval.proofs.Formulas.{value-variable}
 use Rattle.expr_cost.specs.declared.Cost.{Cost}

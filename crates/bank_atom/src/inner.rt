@@ -6,7 +6,7 @@ ghost use Rattle.expr_cost.specs.Cost.{is_nonlinear, under_gate, Roomy};
 ghost use Rattle.probe.specs.FormulaRow.{row_of};
 ghost use Rattle.bank_spec.specs.Push.{atom_of};
 ghost use Rattle.bank_spec.specs.Bank.{or_all};
-ghost use Rattle.bank_atom.specs.Entry.{entry_of, leaf_of, unary_token, unary_of, unary_row, Longer, Joined, GateText, IsConstant, Extends, UnderUnary, Joins, UnderGate};
+ghost use Rattle.bank_atom.specs.Entry.{entry_of, leaf_of, unary_of, unary_row, Longer, Joined, GateText, IsConstant, Extends, UnderUnary, Joins, UnderGate};
 ghost use Rattle.bank_atom.specs.Seeding.{WithSeed, AreSeeds};
 
 use crate::{Entry, Formula, SEED_WORDS, Seeds, UNUSED, Unary};
@@ -48,11 +48,9 @@ fn variable_row(w: u32, points: [Point; 16], i: usize) -> [u64; 16]
     ensures { result ≡ row_of w points (Variable i ∷ []) }
 {
     let mut row = [0u64; ROW_WORDS];
-    let mut k: usize = 0;
-    while k < POINTS {
+    for k in 0..POINTS {
         let p = points[k];
         row[k] = arith::reduce(p.words[i], w);
-        k += 1;
     }
     row
 }
@@ -93,25 +91,14 @@ fn joined(a: Formula, b: Formula) -> Formula
     let count = b.len as usize;
     let mut ops = a.ops;
     let mut operands = a.operands;
-    let mut k: usize = 0;
-    while k < count {
+    for k in 0..count {
         ops[from + k] = b.ops[k];
         operands[from + k] = b.operands[k];
-        k += 1;
     }
     Formula {
         len: a.len + b.len,
         ops,
         operands,
-    }
-}
-
-fn unary_opcode(u: Unary) -> u8
-    ensures { result ≡ opcode_of (unary_token u) }
-{
-    match u {
-        Unary::Neg => 8,
-        Unary::Not => 7,
     }
 }
 
@@ -130,10 +117,8 @@ fn unary_row(row: [u64; 16], u: Unary, w: u32) -> [u64; 16]
     ensures { result ≡ unary_row u w row }
 {
     let mut out = [0u64; ROW_WORDS];
-    let mut k: usize = 0;
-    while k < ROW_WORDS {
+    for k in 0..ROW_WORDS {
         out[k] = unary_lane(row[k], u, w);
-        k += 1;
     }
     out
 }
@@ -146,13 +131,13 @@ pub fn under_unary(e: Entry, u: Unary, w: u32) -> Entry
     let below = e.text;
     let below_cost = e.cost;
     let below_row = e.row;
-    let text = with_token(below, unary_opcode(u));
+    let text = with_token(below, u8::from(u));
     let cost = below_cost.under_unary();
     let row = unary_row(below_row, u, w);
     Entry { text, cost, row }
 }
 
-// The opcode of a gate.
+// The opcode of a gate. A function: `Gate` and `u8` are both from elsewhere, so a `From` can't stand here.
 pub fn gate_opcode(g: Gate) -> u8
     ensures { result ≡ opcode_of (Binary g) }
 {
@@ -239,10 +224,8 @@ pub fn seeds_of(target: [u64; 16]) -> Seeds
     };
     let mut s = with_seed(none, or_all(target), 1);
     let most = s.count + SEED_WORDS;
-    let mut i: usize = 0;
-    while i < ROW_WORDS {
+    for i in 0..ROW_WORDS {
         s = with_seed(s, target[i], most);
-        i += 1;
     }
     s
 }
@@ -252,9 +235,7 @@ fn or_all(target: [u64; 16]) -> u64
     ensures { result ≡ or_all target }
 {
     let mut all: u64 = 0;
-    let mut i: usize = ROW_WORDS;
-    while 0 < i {
-        i -= 1;
+    for i in (0..ROW_WORDS).rev() {
         all = target[i] | all;
     }
     all

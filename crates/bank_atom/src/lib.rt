@@ -3,6 +3,10 @@
 
 pub mod inner;
 
+ghost use Rattle.std.specs.Prelude.{◌≡◌};
+ghost use Rattle.expr.specs.Formula.{opcode_of};
+ghost use Rattle.bank_atom.specs.Entry.{unary_token};
+
 use expr_cost::Cost;
 
 // The most tokens of an atom's formula.
@@ -35,6 +39,18 @@ pub struct Entry {
 pub enum Unary {
     Neg,
     Not,
+}
+
+// The opcode of each.
+impl From<Unary> for u8 {
+    ghost from_gives = { λ u n. n ≡ opcode_of (unary_token u) };
+
+    fn from(u: Unary) -> u8 {
+        match u {
+            Unary::Neg => 8,
+            Unary::Not => 7,
+        }
+    }
 }
 
 // The words that are pushed as constants, at most eight: the target's OR and seven of its words.

@@ -1,13 +1,13 @@
 -- Finding a row in lent bank rows, and handing one back. Assumes nothing.
 use Rattle.std.specs.Prelude.{true, false, ◌||◌, List, [], ℕ, zero, suc, ◌^◌, leb}
 use Rattle.std.proofs.Math.Option.{Option, none, some}
-use Rattle.limits.specs.Refusal.{refuse, unless_refused, bad_width, Outcome, refused, answer, outcome}
+use Rattle.limits.specs.Refusal.{refuse, unless_refused, bad_width, Outcome, outcome}
 use Rattle.arrays.specs.Parts.{part_at}
 use Rattle.row_gates.specs.Gates.{same_row}
 use Rattle.row_lent.specs.Range.{reaches}
 use Rattle.limits.specs.Limits.{too_few_rows, too_many_atoms}
-use Rattle.bank_lookup.specs.declared.FoundRow.{FoundRow}
-use Rattle.bank_lookup.specs.declared.FoundRow.TheVariants.{At, Nothing, Refused}
+use Rattle.row_lent.specs.declared.AtomSlot.{AtomSlot}
+use Rattle.std.specs.Prelude as Std
 
 -- 01, Also added: the least slot from k on, of n, whose row is the row; or none
 unfoldable pub least_from : List ℕ → List ℕ → ℕ → ℕ → Option ℕ
@@ -27,11 +27,10 @@ find_refusal w count rows row =
 abbrev pub found : ℕ → ℕ → List ℕ → List ℕ → Outcome (Option ℕ)
 found w count rows row = outcome (find_refusal w count rows row) (least_from rows row 0 count)
 
--- 01, Expected forms ..: what each case of `FoundRow` says: the slot, none, or its refusal
-abbrev pub found_says : FoundRow → Outcome (Option ℕ)
-found_says (At slot) = answer (some slot.0)
-found_says Nothing = answer none
-found_says (Refused number) = refused number
+-- the number of the slot that `find_row` answers, or none
+abbrev pub slot_number : Std.Option AtomSlot → Option ℕ
+slot_number (Std.Some slot) = some slot.0
+slot_number Std.None = none
 
 -- 01, Turned back: handing back a row 4, 7 (also an atom slot that is not below its count)
 abbrev pub hand_refusal : ℕ → List ℕ → ℕ → ℕ

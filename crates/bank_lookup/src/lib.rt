@@ -2,53 +2,48 @@
 #![tactic(auto)]
 
 ghost use Rattle.std.specs.Prelude.{◌≡◌, ◌*◌, ◌≤◌, length};
-ghost use Rattle.limits.specs.Refusal.{answer};
-ghost use Rattle.bank_lookup.specs.Lookup.{found, found_says, handed_back, least_from};
+ghost use Rattle.limits.specs.Refusal.{says_by};
+ghost use Rattle.bank_lookup.specs.Lookup.{found, slot_number, handed_back, least_from};
 
-use limits::ATOMS_MAX;
+use limits::{ATOMS_MAX, Refusal};
 use row_gates::ROW_WORDS;
 use row_lent::AtomSlot;
 
-// 01, Also added: the least slot, or none; or the refusal.
-#[derive(Clone, Copy)]
-pub enum FoundRow {
-    At(AtomSlot),
-    Nothing,
-    Refused(u32),
-}
-
-// Finds the least slot of a lent bank whose row is `row`. Refuses 2, 4, 5, 7.
-pub fn find_row(w: u32, atom_count: usize, atom_rows: &[u64], row: [u64; 16]) -> FoundRow
-    ensures { found_says result ≡ found w atom_count atom_rows.now row }
+// Finds the least slot of a lent bank whose row is `row`, or none. Refuses 2, 4, 5, 7.
+pub fn find_row(
+    w: u32,
+    atom_count: usize,
+    atom_rows: &[u64],
+    row: [u64; 16],
+) -> Result<Option<AtomSlot>, Refusal>
+    ensures { says_by slot_number result ≡ found w atom_count atom_rows.now row }
 {
     if limits::inner::bad_width(w) {
-        return FoundRow::Refused(2);
+        return Err(Refusal::Width);
     }
     if atom_rows.len() / ROW_WORDS < atom_count {
-        return FoundRow::Refused(4);
+        return Err(Refusal::ShortArray);
     }
     if row_lent::inner::row_reaches(row, w) {
-        return FoundRow::Refused(5);
+        return Err(Refusal::LargeWord);
     }
     if ATOMS_MAX < atom_count {
-        return FoundRow::Refused(7);
+        return Err(Refusal::Claim);
     }
-    least_slot(atom_count, atom_rows, row)
+    Ok(least_slot(atom_count, atom_rows, row))
 }
 
 // The least slot below the count whose row is `row`.
-fn least_slot(count: usize, rows: &[u64], row: [u64; 16]) -> FoundRow
+fn least_slot(count: usize, rows: &[u64], row: [u64; 16]) -> Option<AtomSlot>
     requires { (count ≤ 479) × (16 * count ≤ length rows.now) }
-    ensures { found_says result ≡ answer (least_from rows.now row 0 count) }
+    ensures { slot_number result ≡ least_from rows.now row 0 count }
 {
-    let mut s: usize = 0;
-    while s < count {
+    for s in 0..count {
         if row_lent::inner::same_row(rows, s, row) {
-            return FoundRow::At(AtomSlot(s as u32));
+            return Some(AtomSlot(s as u32));
         }
-        s += 1;
     }
-    FoundRow::Nothing
+    None
 }
 
 // The part of the row buffer that is one atom's row. Refuses 4, 7 with an empty part.
@@ -65,7 +60,5 @@ pub fn atom_row(atom_rows: &[u64], atom_count: usize, slot: AtomSlot) -> &[u64]
     if atom_count <= s {
         return &atom_rows[0..0];
     }
-    let from = ROW_WORDS * s;
-    let to = from + ROW_WORDS;
-    &atom_rows[from..to]
+    &atom_rows[ROW_WORDS * s..ROW_WORDS * s + ROW_WORDS]
 }

@@ -1,2 +1,3 @@
 -- What the contracts of this crate, and the definitions above it, cite.
 pub mod Parts
+pub mod Lent

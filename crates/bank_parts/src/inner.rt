@@ -2,28 +2,15 @@
 ghost use Rattle.std.specs.Prelude.{◌≡◌, ◌+◌, ◌*◌, ◌≤◌, ◌<◌, length};
 ghost use Rattle.arrays.specs.Parts.{part_at};
 ghost use Rattle.bank_spec.specs.Encoding.{cost_numbers};
-ghost use Rattle.bank_parts.specs.Parts.{arrays, texts, put_text, TextRoom, Room, held_cost, put_better, Loaded};
+ghost use Rattle.bank_parts.specs.Parts.{texts_of, put_text, TextRoom, Room, held_cost, put_better, Loaded};
+ghost use Rattle.bank_parts.specs.Lent.{arrays_of, SameSlices};
 
-use crate::COST_NUMBERS;
+use crate::{COST_NUMBERS, LentBank};
 use bank_atom::{ATOM_TOKENS, Entry, Formula};
 use expr_cost::Cost;
 use row_lent::AtomSlot;
 
 // ---- written to a part that is lent
-
-fn write_ops(part: &mut [u8], ops: [u8; 6])
-    requires { length part.old ≡ 6 }
-    ensures { part.new ≡ ops }
-{
-    arrays::inner::copy_bytes(part, &ops);
-}
-
-fn write_operands(part: &mut [u64], operands: [u64; 6])
-    requires { length part.old ≡ 6 }
-    ensures { part.new ≡ operands }
-{
-    arrays::inner::copy_words(part, &operands);
-}
 
 fn write_cost(part: &mut [u32], cost: Cost)
     requires { length part.old ≡ 3 }
@@ -34,7 +21,7 @@ fn write_cost(part: &mut [u32], cost: Cost)
     part[2] = cost.depth;
 }
 
-// ---- loaded by value from a slot
+// ---- loaded by value from a slot; bytes and words by a function each, since a part of stride s is defined of numbers, and a type parameter is none
 
 fn load_ops(ops: &[u8], slot: AtomSlot) -> [u8; 6]
     requires { 6 * slot.0 + 6 ≤ length ops.now }
@@ -42,7 +29,7 @@ fn load_ops(ops: &[u8], slot: AtomSlot) -> [u8; 6]
 {
     let base = ATOM_TOKENS * slot.0 as usize;
     let mut six = [0u8; ATOM_TOKENS];
-    arrays::inner::copy_bytes(&mut six, &ops[base..base + ATOM_TOKENS]);
+    six.copy_from_slice(&ops[base..base + ATOM_TOKENS]);
     six
 }
 
@@ -52,89 +39,70 @@ fn load_operands(operands: &[u64], slot: AtomSlot) -> [u64; 6]
 {
     let base = ATOM_TOKENS * slot.0 as usize;
     let mut six = [0u64; ATOM_TOKENS];
-    arrays::inner::copy_words(&mut six, &operands[base..base + ATOM_TOKENS]);
+    six.copy_from_slice(&operands[base..base + ATOM_TOKENS]);
     six
 }
 
-fn load_cost(costs: &[u32], slot: AtomSlot) -> Cost
-    requires { 3 * slot.0 + 3 ≤ length costs.now }
-    ensures { result ≡ held_cost costs.now slot.0 }
+fn load_cost(bank: &LentBank<'_>, slot: AtomSlot) -> Cost
+    requires { 3 * slot.0 + 3 ≤ length bank.now.costs.now }
+    ensures { result ≡ held_cost bank.now.costs.now slot.0 }
 {
     let base = COST_NUMBERS * slot.0 as usize;
     Cost {
-        size: costs[base],
-        products: costs[base + 1],
-        depth: costs[base + 2],
+        size: bank.costs[base],
+        products: bank.costs[base + 1],
+        depth: bank.costs[base + 2],
     }
 }
 
 // ---- a whole slot
 
 // The atom at a slot.
-pub fn load_entry(
-    lengths: &[u32],
-    ops: &[u8],
-    operands: &[u64],
-    costs: &[u32],
-    rows: &[u64],
-    slot: AtomSlot,
-) -> Entry
-    requires { (slot.0 < 479) × Room (arrays lengths.now ops.now operands.now costs.now rows.now) }
-    ensures { Loaded (arrays lengths.now ops.now operands.now costs.now rows.now) slot.0 result }
+pub fn load_entry(bank: &LentBank<'_>, slot: AtomSlot) -> Entry
+    requires { (slot.0 < 479) × Room (arrays_of bank.now) }
+    ensures { Loaded (arrays_of bank.now) slot.0 result }
 {
     let at = slot.0 as usize;
-    let len = lengths[at];
-    let six_ops = load_ops(ops, slot);
-    let six_operands = load_operands(operands, slot);
+    let len = bank.lengths[at];
+    let six_ops = load_ops(bank.ops, slot);
+    let six_operands = load_operands(bank.operands, slot);
     let text = Formula {
         len,
         ops: six_ops,
         operands: six_operands,
     };
-    let cost = load_cost(costs, slot);
-    let row = row_lent::inner::load_row(rows, at);
+    let cost = load_cost(bank, slot);
+    let row = row_lent::inner::load_row(bank.rows, at);
     Entry { text, cost, row }
 }
 
 // A formula and its cost, into their slot.
-pub fn write_text(
-    lengths: &mut [u32],
-    ops: &mut [u8],
-    operands: &mut [u64],
-    costs: &mut [u32],
-    slot: AtomSlot,
-    text: Formula,
-    cost: Cost,
-)
-    requires { (slot.0 < 479) × TextRoom (texts lengths.old ops.old operands.old costs.old) }
-    ensures { texts lengths.new ops.new operands.new costs.new ≡ put_text (texts lengths.old ops.old operands.old costs.old) slot.0 text cost }
+pub fn write_text(bank: &mut LentBank<'_>, slot: AtomSlot, text: Formula, cost: Cost)
+    requires { (slot.0 < 479) × TextRoom (texts_of (arrays_of bank.old)) }
+    ensures texts { texts_of (arrays_of bank.new) ≡ put_text (texts_of (arrays_of bank.old)) slot.0 text cost }
+    ensures room { TextRoom (texts_of (arrays_of bank.new)) }
+    ensures rows { bank.new.rows.now ≡ bank.old.rows.now }
+    ensures same { SameSlices bank.old bank.new }
 {
     let at = slot.0 as usize;
-    lengths[at] = text.len;
+    bank.lengths[at] = text.len;
     let six = ATOM_TOKENS * at;
-    let six_ops = text.ops;
-    write_ops(&mut ops[six..six + ATOM_TOKENS], six_ops);
-    let six_operands = text.operands;
-    write_operands(&mut operands[six..six + ATOM_TOKENS], six_operands);
+    bank.ops[six..six + ATOM_TOKENS].copy_from_slice(&text.ops);
+    bank.operands[six..six + ATOM_TOKENS].copy_from_slice(&text.operands);
     let three = COST_NUMBERS * at;
-    write_cost(&mut costs[three..three + COST_NUMBERS], cost);
+    write_cost(&mut bank.costs[three..three + COST_NUMBERS], cost);
 }
 
 // Replaces formula and cost at a slot exactly if the new cost is strictly better.
-pub fn replace_if_better(
-    lengths: &mut [u32],
-    ops: &mut [u8],
-    operands: &mut [u64],
-    costs: &mut [u32],
-    slot: AtomSlot,
-    text: Formula,
-    cost: Cost,
-)
-    requires { (slot.0 < 479) × TextRoom (texts lengths.old ops.old operands.old costs.old) }
-    ensures { texts lengths.new ops.new operands.new costs.new ≡ put_better (texts lengths.old ops.old operands.old costs.old) slot.0 text cost }
+pub fn replace_if_better(bank: &mut LentBank<'_>, slot: AtomSlot, text: Formula, cost: Cost)
+    requires { (slot.0 < 479) × TextRoom (texts_of (arrays_of bank.old)) }
+    ensures texts { texts_of (arrays_of bank.new) ≡ put_better (texts_of (arrays_of bank.old)) slot.0 text cost }
+    ensures room { TextRoom (texts_of (arrays_of bank.new)) }
+    ensures rows { bank.new.rows.now ≡ bank.old.rows.now }
+    ensures same { SameSlices bank.old bank.new }
 {
-    let held = load_cost(costs, slot);
+    let held = load_cost(bank, slot);
     if cost.is_better(held) {
-        write_text(lengths, ops, operands, costs, slot, text, cost);
+        write_text(bank, slot, text, cost);
     }
 }

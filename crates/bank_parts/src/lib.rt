@@ -5,3 +5,13 @@ pub mod inner;
 
 // The cost numbers of an atom.
 pub const COST_NUMBERS: usize = 3;
+
+// A bank's five lent arrays.
+#[derive(Drop)]
+pub struct LentBank<'a> {
+    pub lengths: &'a mut [u32],
+    pub ops: &'a mut [u8],
+    pub operands: &'a mut [u64],
+    pub costs: &'a mut [u32],
+    pub rows: &'a mut [u64],
+}

@@ -32,11 +32,6 @@ with_rows t rows = arrays t.lengths t.ops t.operands t.costs rows
 pub rows_with : {t t' : Texts} {rows rows' : List ℕ} → t ≡ t' → rows ≡ rows' → with_rows t rows ≡ with_rows t' rows'
 rows_with et er = λ i. with_rows (et i) (er i)
 
--- arrays keep their lengths, and so their room
-pub room-kept : (t t' : Texts) → length t'.lengths ≡ length t.lengths → length t'.ops ≡ length t.ops → length t'.operands ≡ length t.operands
-    → length t'.costs ≡ length t.costs → TextRoom t → TextRoom t'
-room-kept t t' l o p c room = record { lengths = rw l room.lengths; ops = rw o room.ops; operands = rw p room.operands; costs = rw c room.costs }
-
 -- ---- rows of sixteen words stay so
 abbrev Wide : List Atom → Type 0
 Wide bank = (k : ℕ) → k < length bank → length (get_or bank k no_atom).row ≡ 16
@@ -99,15 +94,15 @@ module _ (bank : List Atom) (old : Arrays) (x : Atom) (k : ℕ) (f : First bank 
       go false = refl
 
 -- the arm of `push` where the map finds the row
-pub pushed_held : (a : Arrays) (t' : Texts) (work : List ℕ) (n : ℕ) (e : Entry) (k : ℕ) → Ready a work n → TextRoom t' → Hit a.rows n e.row k
-    → t' ≡ put_better (texts_of a) k e.text e.cost → Pushed a (with_rows t' a.rows) work n e n
-pushed_held a t' work n e k ready room hit et = record {
-  ready = record { room = record { texts = room; rows = ready.room.rows }; area = ready.area; held = ready.held };
+pub pushed_held : (a a' : Arrays) (work : List ℕ) (n : ℕ) (e : Entry) (k : ℕ) → Ready a work n → TextRoom (texts_of a') → Hit a.rows n e.row k
+    → texts_of a' ≡ put_better (texts_of a) k e.text e.cost → a'.rows ≡ a.rows → Pushed a a' work n e n
+pushed_held a a' work n e k ready room hit et er = record {
+  ready = record { room = record { texts = room; rows = rw er ready.room.rows }; area = ready.area; held = rw er ready.held };
   few = (omega arith, omega arith);
   bank = bank';
 }
   where
-    bank' : (old : Arrays) (bank : List Atom) (x : Atom) → e ≡ entry_of x → IsBank old a n bank → IsBank old (with_rows t' a.rows) n (push bank x)
+    bank' : (old : Arrays) (bank : List Atom) (x : Atom) → e ≡ entry_of x → IsBank old a n bank → IsBank old a' n (push bank x)
     bank' old bank x ex is =
         let h : k < length bank = omega (arith, hit.below, is.count) in
         let here : (get_or bank k no_atom).row ≡ x.row = sym (row-held is k h) ∙ hit.same ∙ ap (λ (z : Entry). z.row) ex in
@@ -117,7 +112,7 @@ pushed_held a t' work n e k ready room hit et = record {
           arrays = rows_with
               (et ∙ ap (λ (z : Arrays). put_better (texts_of z) k e.text e.cost) is.arrays
               ∙ ap (λ (z : Entry). put_better (texts_of (written bank old)) k z.text z.cost) ex ∙ held-texts bank old x k f)
-              (ap (λ (z : Arrays). z.rows) is.arrays ∙ sym (held_rows bank old x k f));
+              (er ∙ ap (λ (z : Arrays). z.rows) is.arrays ∙ sym (held_rows bank old x k f));
           wide = push-wide bank x (ap length (sym here) ∙ is.wide k h) is.wide;
           distinct = push-distinct bank x is.distinct;
         }

@@ -1,14 +1,16 @@
 -- The formulas of the stock at their places, and that they pass what `under_unary` and `under_gate` ask for. Assumes nothing.
-use mathlib.Core.Path.{◌≡◌, sym, ap, ◌∙◌, subst}
+use mathlib.Core.Path.{◌≡◌, refl, sym, ap, ◌∙◌, subst}
 use mathlib.Core.Bool.{Bool, true, cond}
 use mathlib.Core.List.{List, [], ◌∷◌}
-use Prim.Native.Nat.{ℕ, ◌-◌, ◌^◌, ◌≤◌, ◌<◌}
+use lib.ListN.{get_or}
+use Prim.Native.Nat.{ℕ, zero, suc, ◌-◌, ◌^◌, ◌≤◌, ◌<◌}
 use borrow.Author.Tests.{ne_eqb, lt-ltb, le-ltb}
 use native.Mathlib.Omega.{arith}
 use Rattle.arith.specs.Word.{modulus}
 use Rattle.arith.proofs.Remainders.{modulus-is}
 use Rattle.row_gates.specs.Gates.{gate_at}
 use Rattle.row_gates.specs.declared.Gate.{Gate}
+use Rattle.row_gates.specs.declared.Gate.TheVariants.{And, Or, Xor, Add, Mul}
 use Rattle.expr.specs.declared.Token.{Token}
 use Rattle.expr.specs.declared.Token.TheVariants.{Variable, Binary, Not, Neg}
 use Rattle.expr.specs.Formula.{is_formula}
@@ -53,6 +55,15 @@ variable_1 i k e = sym (ap (variable_at i) e)
 
 pub variable_2 : (i k : ℕ) → (k ≡ 0 → ⊥) → (k ≡ 1 → ⊥) → ◌≡◌ {A = List Token} (Variable i ∷ (Not ∷ [])) (variable_at i k)
 variable_2 i k e f = rw (ne_eqb k 0 e, ne_eqb k 1 f)
+
+-- the gates at their numbers
+pub gates_at : (k : ℕ) (d : Gate) → k < 5 → get_or (And ∷ (Or ∷ (Xor ∷ (Add ∷ (Mul ∷ []))))) k d ≡ gate_at k
+gates_at zero d h = refl
+gates_at (suc zero) d h = refl
+gates_at (suc (suc zero)) d h = refl
+gates_at (suc (suc (suc zero))) d h = refl
+gates_at (suc (suc (suc (suc zero)))) d h = refl
+gates_at (suc (suc (suc (suc (suc k))))) d h = absurd (omega arith)
 
 -- the gate at its place
 pub pair-form : (i j k : ℕ) (g : Gate) → g ≡ gate_at k → ◌≡◌ {A = List Token} (Variable i ∷ (Variable j ∷ (Binary g ∷ []))) (Variable i ∷ (Variable j ∷ (Binary (gate_at k) ∷ [])))

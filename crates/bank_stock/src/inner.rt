@@ -10,17 +10,15 @@ ghost use Rattle.bank_stock.specs.Cursor.{Stands, first_of, is_done, constant_at
 use crate::Cursor;
 use bank_atom::{Entry, Unary};
 use probe_points::Point;
-use row_gates::Gate;
+use row_gates::{GATES, Gate};
 
 // Constants of the stock, and how many of them, the first, are the numbers of their places: 0, 1, 2.
 const CONSTANTS: u32 = 4;
 
 const OWN_NUMBERS: u32 = 3;
 
-// Forms of each variable, and gates of each pair.
+// Forms of each variable.
 const FORMS: u32 = 3;
-
-const GATES: u32 = 5;
 
 // Where the stock begins.
 pub fn first() -> Cursor
@@ -98,7 +96,7 @@ pub fn entry_at(at: Cursor, nv: u32, w: u32, points: [Point; 16]) -> Entry
     match at {
         Cursor::Constant(k) => constant_at(w, k),
         Cursor::Variable(i, k) => variable_at(w, points, i, k),
-        Cursor::Pair(i, j, k) => pair_at(w, points, i, j, row_gates::inner::gate_at(k)),
+        Cursor::Pair(i, j, k) => pair_at(w, points, i, j, GATES[k as usize]),
         Cursor::Difference(i, j) => difference_at(w, points, i, j),
         Cursor::Done => bank_atom::inner::constant(w, 0),
     }
@@ -144,7 +142,7 @@ fn next_pair(nv: u32, i: u32, j: u32, k: u32) -> Cursor
     requires { (i < 6) × ((j < 6) × (k < 5)) }
     ensures { result ≡ next_of nv (Place.Pair i j k) }
 {
-    if k + 1 < GATES {
+    if k + 1 < GATES.len() as u32 {
         return Cursor::Pair(i, j, k + 1);
     }
     if j + 1 < nv {

@@ -3,7 +3,8 @@
 
 pub mod inner;
 
-// A place in the stock: constant k; form k of variable i; gate k of variables i ≤ j; variable i minus variable j.
+// A place in the stock: constant k; form k of variable i; gate k of variables i ≤ j; variable i minus variable j. An enum and no iterator: the places nest in
+// three ways, and the proof of the walk goes by them.
 #[derive(Clone, Copy)]
 pub enum Cursor {
     Constant(u32),

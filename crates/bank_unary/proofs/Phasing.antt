@@ -66,12 +66,3 @@ holding old a work n bank p = record { ready = p.ready; bank = bank-again old a 
 pub phase_on : (old a a' : Arrays) (work work' : List ℕ) (n r : ℕ) (bank later : List Atom) → length bank ≤ length later
     → Phase old a work n bank → Phase a a' work' r later → Phase old a' work' r later
 phase_on old a a' work work' n r bank later h p q = record { ready = q.ready; bank = bank_over old a a' n r bank later h p.bank q.bank }
-
--- the six lengths are as they were
-pub record Kept (old a : Arrays) (old_work nowWork : List ℕ) : Type 0 where
-  pub lengths : length a.lengths ≡ length old.lengths
-  pub ops : length a.ops ≡ length old.ops
-  pub operands : length a.operands ≡ length old.operands
-  pub costs : length a.costs ≡ length old.costs
-  pub rows : length a.rows ≡ length old.rows
-  pub work : length nowWork ≡ length old_work

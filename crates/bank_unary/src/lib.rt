@@ -2,3 +2,13 @@
 #![tactic(auto)]
 
 pub mod inner;
+
+use probe_points::Point;
+
+// What a bank is built over: the variable count, the width and the points.
+#[derive(Clone, Copy)]
+pub struct Setting {
+    pub nv: u32,
+    pub w: u32,
+    pub points: [Point; 16],
+}

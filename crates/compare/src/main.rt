@@ -7,7 +7,7 @@ ghost use Rattle.std.specs.Prelude.{◌≤◌, length};
 
 use compare_lines::inner::scan;
 use compare_lines::inner::scan::Scan;
-use compare_texts::Case;
+use compare_texts::{Case, Fed};
 use std::fs;
 use std::io::{self, Read};
 use std::rt::{Env, Files};
@@ -17,7 +17,7 @@ const LINE_NUMBERS: usize = 512;
 // No path is longer.
 const PATH_MAX: usize = 4096;
 
-#[derive(Clone, Copy)]
+#[derive(Clone, Copy, Default)]
 struct Tally {
     lines: u64,
     compared: u64,
@@ -27,20 +27,21 @@ struct Tally {
 #[derive(Clone, Copy)]
 struct Progress {
     scan: Scan,
-    case: Case,
+    // the one that is open
+    case: Option<Case>,
     tally: Tally,
-    // 0: go on; 1: the file is at its end; 2: a read failed
-    state: u8,
+    reading: Reading,
 }
 
-#[derive(Clone, Copy)]
-struct Argument {
-    given: bool,
-    tally: Tally,
+#[derive(Clone, Copy, PartialEq, Eq)]
+enum Reading {
+    On,
+    AtEnd,
+    Failed,
 }
 
 fn one_more(n: u64) -> u64 {
-    std::num::wrapping_add_u64(n, 1)
+    n.wrapping_add(1)
 }
 
 // Names a line, or a case by its first line, on standard error. Where that can't be written the count still stands.
@@ -118,22 +119,20 @@ fn settle(rt: &impl Eprint, numbers: &[u64], s: Scan, mut t: Tally) -> Tally
 }
 
 // The case that a line opens, if it opens one. Its line is compared as a line, and counts for both.
-fn case_of(numbers: &[u64], s: Scan, line: u64) -> Case
+fn case_of(numbers: &[u64], s: Scan, line: u64) -> Option<Case>
     requires { s.count ≤ length numbers.now }
 {
     if s.bad {
-        return compare_texts::none();
+        return None;
     }
     let count = s.count;
     compare_texts::begin(&numbers[..count], line)
 }
 
-// A case at its end, or at the file's.
-fn settle_case(rt: &impl Eprint, c: Case, mut t: Tally) -> Tally {
-    if c.open || !c.same {
-        t.different = one_more(t.different);
-        tell(rt, c.line);
-    }
+// A case at its end that differs, or that the file's end cuts off.
+fn different_case(rt: &impl Eprint, c: Case, mut t: Tally) -> Tally {
+    t.different = one_more(t.different);
+    tell(rt, c.line);
     t
 }
 
@@ -144,15 +143,20 @@ fn feed_case(rt: &impl Eprint, out: &mut [u8], c: Case, mut t: Tally, byte: u8) 
     if byte == b'\n' {
         t.lines = one_more(t.lines);
     }
-    let case = compare_texts::feed(out, c, byte);
-    if !case.open {
-        t = settle_case(rt, case, t);
-    }
+    let case = match compare_texts::feed(out, c, byte) {
+        Fed::Open(case) => Some(case),
+        Fed::Ended(same) => {
+            if !same {
+                t = different_case(rt, c, t);
+            }
+            None
+        }
+    };
     Progress {
         scan: Scan::new(),
         case,
         tally: t,
-        state: 0,
+        reading: Reading::On,
     }
 }
 
@@ -163,13 +167,13 @@ fn feed_line(rt: &impl Eprint, numbers: &mut [u64], p: Progress, byte: u8) -> Pr
 {
     let s = scan::feed(numbers, p.scan, byte);
     let tally = p.tally;
-    if !s.ended {
+    if byte != b'\n' {
         let case = p.case;
         return Progress {
             scan: s,
             case,
             tally,
-            state: 0,
+            reading: Reading::On,
         };
     }
     let t = settle(rt, numbers, s, tally);
@@ -178,7 +182,7 @@ fn feed_line(rt: &impl Eprint, numbers: &mut [u64], p: Progress, byte: u8) -> Pr
         scan: Scan::new(),
         case,
         tally: t,
-        state: 0,
+        reading: Reading::On,
     }
 }
 
@@ -192,10 +196,10 @@ fn feed_byte(
     requires { p.scan.count ≤ length numbers.old }
     ensures { result.scan.count ≤ length numbers.new }
 {
-    if p.case.open {
-        return feed_case(rt, out, p.case, p.tally, byte);
+    match p.case {
+        Some(case) => feed_case(rt, out, case, p.tally, byte),
+        None => feed_line(rt, numbers, p, byte),
     }
-    feed_line(rt, numbers, p, byte)
 }
 
 // The bytes of one read.
@@ -210,19 +214,17 @@ fn feed_part(
     ensures { result.scan.count ≤ length numbers.new }
 {
     let mut q = p;
-    let mut i: usize = 0;
-    while i < part.len() {
-        q = feed_byte(rt, numbers, out, q, part[i]);
-        i += 1;
+    for byte in part {
+        q = feed_byte(rt, numbers, out, q, *byte);
     }
     q
 }
 
-// The reading with another state.
-fn at_state(mut p: Progress, state: u8) -> Progress
+// The reading where it ends.
+fn ended(mut p: Progress, reading: Reading) -> Progress
     ensures { result.scan.count ≤ p.scan.count }
 {
-    p.state = state;
+    p.reading = reading;
     p
 }
 
@@ -238,9 +240,9 @@ fn read_some(
 {
     let mut buffer = [0u8; 65536];
     match file.read(&mut buffer) {
-        Ok(0) => at_state(p, 1),
+        Ok(0) => ended(p, Reading::AtEnd),
         Ok(n) => feed_part(rt, numbers, out, &buffer[..n], p),
-        Err(_) => at_state(p, 2),
+        Err(_) => ended(p, Reading::Failed),
     }
 }
 
@@ -256,11 +258,9 @@ fn read_all(
     ensures { result.scan.count ≤ length numbers.new }
 {
     let mut q = p;
-    let mut turns: u64 = 0;
-    while turns < 0x100_0000 {
+    for _ in 0..0x100_0000u64 {
         q = read_some(rt, numbers, out, file, q);
-        turns += 1;
-        if q.state != 0 {
+        if q.reading != Reading::On {
             return q;
         }
     }
@@ -271,12 +271,12 @@ fn read_all(
 fn end_file(rt: &impl Eprint, numbers: &mut [u64], out: &mut [u8], p: Progress) -> Tally
     requires { p.scan.count ≤ length numbers.old }
 {
-    if p.case.open {
-        return settle_case(rt, p.case, p.tally);
+    if let Some(case) = p.case {
+        return different_case(rt, case, p.tally);
     }
     let last = feed_part(rt, numbers, out, b"\n", p);
-    if last.case.open {
-        return settle_case(rt, last.case, last.tally);
+    if let Some(case) = last.case {
+        return different_case(rt, case, last.tally);
     }
     last.tally
 }
@@ -288,14 +288,14 @@ fn compare_file(rt: &impl Eprint, file: &mut impl Read, mut t: Tally) -> Tally {
     let mut out = [0u8; compare_texts::PRINTED_MAX];
     let p = Progress {
         scan: Scan::new(),
-        case: compare_texts::none(),
+        case: None,
         tally: t,
-        state: 0,
+        reading: Reading::On,
     };
     let q = read_all(rt, &mut numbers, &mut out, file, p);
-    let state = q.state;
+    let reading = q.reading;
     let mut end = end_file(rt, &mut numbers, &mut out, q);
-    if state != 1 {
+    if reading != Reading::AtEnd {
         end.different = one_more(end.different);
     }
     end
@@ -325,36 +325,23 @@ fn compare_name(rt: &(impl Files + Eprint), name: &[u8], mut t: Tally) -> Tally 
     }
 }
 
-// The file that argument k names. An argument longer than any path counts as not given.
-fn compare_argument(rt: &(impl Env + Files + Eprint), k: usize, t: Tally) -> Argument {
+// The file that argument k names, if it is given. An argument longer than any path counts as not given.
+fn compare_argument(rt: &(impl Env + Files + Eprint), k: usize, t: Tally) -> Option<Tally> {
     let mut name = [0u8; PATH_MAX];
     match rt.arg(k, &mut name) {
-        Ok(length) => Argument {
-            given: true,
-            tally: compare_name(rt, &name[..length], t),
-        },
-        Err(_) => Argument {
-            given: false,
-            tally: t,
-        },
+        Ok(length) => Some(compare_name(rt, &name[..length], t)),
+        Err(_) => None,
     }
 }
 
 // All arguments, up to the first that is not given.
 fn compare_all(rt: &(impl Env + Files + Eprint)) -> Tally {
-    let mut t = Tally {
-        lines: 0,
-        compared: 0,
-        different: 0,
-    };
-    let mut k: usize = 1;
-    while k < 1000 {
-        let a = compare_argument(rt, k, t);
-        t = a.tally;
-        k += 1;
-        if !a.given {
+    let mut t = Tally::default();
+    for k in 1..1000 {
+        let Some(more) = compare_argument(rt, k, t) else {
             return t;
-        }
+        };
+        t = more;
     }
     t
 }

@@ -1,19 +1,19 @@
 // The points of a line and the bank of a line, for the lines that go on from its rows.
 ghost use Rattle.std.specs.Prelude.{◌≤◌, length};
 
-use bank::BankAnswer;
+use bank_parts::LentBank;
+use bank_unary::Setting;
 use compare_lines::narrow;
+use limits::Refusal;
 use probe_points::Point;
 
-// A point of nv words from `base` on, zeros past them.
+// A point of nv words from `base` on, zeros past them. Not the listing's `point_of`, which is what is compared and reads a text's numbers at other places.
 fn point_at(line: &[u64], base: usize, nv: usize) -> Point
     requires { (base ≤ 1000) × (nv ≤ 6) }
 {
     let mut words = [0u64; 6];
-    let mut i: usize = 0;
-    while i < nv {
+    for i in 0..nv {
         words[i] = compare_lines::number_at(line, base + i);
-        i += 1;
     }
     Point { words }
 }
@@ -22,16 +22,18 @@ fn point_at(line: &[u64], base: usize, nv: usize) -> Point
 pub fn points_at(line: &[u64], stride: usize) -> [Point; 16]
     requires { stride ≤ 6 }
 {
-    let mut points = [Point { words: [0; 6] }; 16];
-    let mut base: usize = 3;
-    let mut k: usize = 0;
-    while k < 16 {
-        let p = point_at(line, base, stride);
-        points[k] = p;
-        base += stride;
-        k += 1;
+    std::array::from_fn(|k| point_at(line, 3 + k * stride, stride))
+}
+
+// The variable count and the width of a line KIND NV W, with points.
+pub fn setting_of(line: &[u64], points: [Point; 16]) -> Setting
+    requires { 3 ≤ length line.now }
+{
+    Setting {
+        nv: narrow(line[1]),
+        w: narrow(line[2]),
+        points,
     }
-    points
 }
 
 // The bank of a line KIND NV W, the points' words and the target: its formulas and rows are left, and how many atoms there are is handed back; 0 where it is
@@ -50,18 +52,14 @@ pub fn bank_of(
     let target = compare_lines::inner::row_at(line, 3 + 16 * nv);
     let mut costs = [0u32; 1437];
     let mut work = [0u32; 1916];
-    let built = bank::build_bank(
+    let mut lent = LentBank {
         lengths,
         ops,
         operands,
-        &mut costs,
+        costs: &mut costs,
         rows,
-        &mut work,
-        narrow(line[1]),
-        narrow(line[2]),
-        points,
-        target,
-    );
+    };
+    let built = bank::build_bank(&mut lent, &mut work, setting_of(line, points), target);
     count_of(built)
 }
 
@@ -76,17 +74,11 @@ pub fn bank_rows(rows: &mut [u64], line: &[u64], nv: usize) -> usize
 }
 
 // The atoms of an answer, at most 479; 0 where it is refused.
-pub fn count_of(r: BankAnswer) -> usize
+pub fn count_of(r: Result<u32, Refusal>) -> usize
     ensures { result ≤ 479 }
 {
     match r {
-        BankAnswer::Built(count) => at_most_479(count),
-        BankAnswer::Refused(_) => 0,
+        Ok(count) if count <= 479 => count as usize,
+        _ => 0,
     }
-}
-
-fn at_most_479(n: u32) -> usize
-    ensures { result ≤ 479 }
-{
-    if n <= 479 { n as usize } else { 0 }
 }

@@ -6,6 +6,7 @@ pub mod inner;
 ghost use Rattle.std.specs.Prelude.{◌+◌, ◌≤◌, length};
 
 use bank::Sizes;
+use bank_parts::LentBank;
 use compare_lines::narrow;
 use probe_points::Point;
 
@@ -40,70 +41,51 @@ fn built_is(line: &[u64], points: [Point; 16], target: [u64; 16], at: usize) -> 
     let mut costs = [0u32; 1437];
     let mut rows = [0u64; 7664];
     let mut work = [0u32; 1916];
-    let built = bank::build_bank(
-        &mut lengths,
-        &mut ops,
-        &mut operands,
-        &mut costs,
-        &mut rows,
-        &mut work,
-        narrow(line[1]),
-        narrow(line[2]),
-        points,
-        target,
-    );
+    let mut lent = LentBank {
+        lengths: &mut lengths,
+        ops: &mut ops,
+        operands: &mut operands,
+        costs: &mut costs,
+        rows: &mut rows,
+    };
+    let setting = inner::setting_of(line, points);
+    let built = bank::build_bank(&mut lent, &mut work, setting, target);
     let n = inner::count_of(built);
-    arrays_are(line, at, n, &lengths, &ops, &operands, &costs, &rows)
+    arrays_are(line, at, n, &lent)
 }
 
 // Whether the count of atoms and the digests of their parts of the arrays stand from `at` on.
-fn arrays_are(
-    line: &[u64],
-    at: usize,
-    n: usize,
-    lengths: &[u32],
-    ops: &[u8],
-    operands: &[u64],
-    costs: &[u32],
-    rows: &[u64],
-) -> bool
+fn arrays_are(line: &[u64], at: usize, n: usize, lent: &LentBank<'_>) -> bool
     requires { (n ≤ 479) × (at + 6 ≤ length line.now) }
 {
     if n as u64 != line[at] {
         return false;
     }
-    if !texts_are(line, at, n, lengths, ops, operands) {
+    if !texts_are(line, at, n, lent) {
         return false;
     }
-    numbers_are(line, at, n, costs, rows)
+    numbers_are(line, at, n, lent)
 }
 
-fn texts_are(
-    line: &[u64],
-    at: usize,
-    n: usize,
-    lengths: &[u32],
-    ops: &[u8],
-    operands: &[u64],
-) -> bool
+fn texts_are(line: &[u64], at: usize, n: usize, lent: &LentBank<'_>) -> bool
     requires { (n ≤ 479) × (at + 6 ≤ length line.now) }
 {
-    if compare_lines::digest_halves(lengths, n) != line[at + 1] {
+    if compare_lines::digest(lent.lengths, n) != line[at + 1] {
         return false;
     }
-    if compare_lines::digest_bytes(ops, 6 * n) != line[at + 2] {
+    if compare_lines::digest(lent.ops, 6 * n) != line[at + 2] {
         return false;
     }
-    compare_lines::digest_words(operands, 6 * n) == line[at + 3]
+    compare_lines::digest(lent.operands, 6 * n) == line[at + 3]
 }
 
-fn numbers_are(line: &[u64], at: usize, n: usize, costs: &[u32], rows: &[u64]) -> bool
+fn numbers_are(line: &[u64], at: usize, n: usize, lent: &LentBank<'_>) -> bool
     requires { (n ≤ 479) × (at + 6 ≤ length line.now) }
 {
-    if compare_lines::digest_halves(costs, 3 * n) != line[at + 4] {
+    if compare_lines::digest(lent.costs, 3 * n) != line[at + 4] {
         return false;
     }
-    compare_lines::digest_words(rows, 16 * n) == line[at + 5]
+    compare_lines::digest(lent.rows, 16 * n) == line[at + 5]
 }
 
 // 12 NV W, six words of each point, the target, the lengths of six lent arrays, REFUSAL
@@ -121,14 +103,8 @@ pub fn bank_refusal_same(line: &[u64]) -> bool {
         rows: compare_lines::least(line[119], SIZE_MAX),
         work: compare_lines::least(line[120], SIZE_MAX),
     };
-    let refusal = bank::inner::bank_refusal(
-        narrow(line[1]),
-        narrow(line[2]),
-        points,
-        target,
-        sizes,
-    );
-    refusal as u64 == line[121]
+    let checked = bank::inner::check(inner::setting_of(line, points), target, sizes);
+    compare_lines::refusal_of(checked) == line[121]
 }
 
 // 13 NV W, the points' words, the target, W2 LIMIT PAIRS CUT and a digest of each array

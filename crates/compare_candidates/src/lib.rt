@@ -4,44 +4,39 @@
 ghost use Rattle.std.specs.Prelude.{◌+◌, ◌≤◌, length};
 
 use compare_lines::{OLD_HALF, OLD_WORD, narrow};
-use search_candidates::CandidatesAnswer;
+use limits::Refusal;
 
-// The most pairs of a line about candidates.
-const PAIRS_MAX: usize = 200;
-
-// An answer as a line has it: 0 used, 1 not used, 100 + r refused r; then how many candidates are listed.
+// An answer by the numbers that a line has for it: 0 used, 1 not used, 100 + r refused r; then how many candidates are listed.
 #[derive(Clone, Copy)]
 struct Told {
     answer: u64,
     count: u64,
 }
 
-fn numbers_of(r: CandidatesAnswer) -> Told {
+fn numbers_of(r: Result<Option<u32>, Refusal>) -> Told {
     match r {
-        CandidatesAnswer::Used(count) => Told {
+        Ok(Some(count)) => Told {
             answer: 0,
             count: count as u64,
         },
-        CandidatesAnswer::NotUsed => Told {
+        Ok(None) => Told {
             answer: 1,
             count: 0,
         },
-        CandidatesAnswer::Refused(number) => Told {
-            answer: 100 + number as u64,
+        Err(refusal) => Told {
+            answer: 100 + u32::from(refusal) as u64,
             count: 0,
         },
     }
 }
 
-// Rows with the n first words that stand from place 3 on. Nothing reads their other words.
+// Rows with the n first words that stand from place 3 on. Nothing reads their other words. A loop: it fills each sixteenth word alone.
 fn rows_at(line: &[u64], n: usize) -> [u64; 3200]
     requires { (n ≤ 200) × (3 + n ≤ length line.now) }
 {
     let mut rows = [OLD_WORD; 3200];
-    let mut i: usize = 0;
-    while i < n {
+    for i in 0..n {
         rows[16 * i] = line[3 + i];
-        i += 1;
     }
     rows
 }
@@ -50,13 +45,11 @@ fn rows_at(line: &[u64], n: usize) -> [u64; 3200]
 fn order_at(line: &[u64], base: usize, n: usize) -> [u32; 200]
     requires { (n ≤ 200) × (base + n ≤ length line.now) }
 {
-    let mut order = [OLD_HALF; PAIRS_MAX];
-    let mut i: usize = 0;
-    while i < n {
-        order[i] = narrow(line[base + i]);
-        i += 1;
-    }
-    order
+    std::array::from_fn(|i| if i < n {
+        narrow(line[base + i])
+    } else {
+        OLD_HALF
+    })
 }
 
 // 15 W N, first words, order list, P T ANSWER COUNT, slots
@@ -114,14 +107,12 @@ fn told_is(t: Told, candidates: &[u32], line: &[u64], at: usize) -> bool
 fn list_is(candidates: &[u32], line: &[u64], base: usize) -> bool
     requires { base ≤ length line.now }
 {
-    let mut i = base;
-    while i < line.len() {
-        if compare_lines::half_at(candidates, i - base) != line[i] {
+    for i in base..line.len() {
+        if compare_lines::number_at(candidates, i - base) != line[i] {
             return false;
         }
-        i += 1;
     }
-    compare_lines::halves_kept(candidates, line.len() - base)
+    compare_lines::kept(candidates, line.len() - base, OLD_HALF)
 }
 
 // 18 W N LISTEDLEN ORDERLEN LISTLEN P T SWAP REFUSAL
@@ -136,7 +127,7 @@ pub fn candidates_refusal_same(line: &[u64]) -> bool {
     if !refusal_is(t, line[9]) {
         return false;
     }
-    compare_lines::halves_kept(&candidates, t.count as usize)
+    compare_lines::kept(&candidates, t.count as usize, OLD_HALF)
 }
 
 // The candidates over parts of the arrays, as long as the line says.
@@ -151,11 +142,11 @@ fn candidates_of_parts(
     let r = search_candidates::collect_mul_probe0_candidates(
         narrow(line[1]),
         line[2] as usize,
-        compare_lines::first_words(pair_rows, line[3]),
-        compare_lines::first_halves(order, line[4]),
+        compare_lines::first(pair_rows, line[3]),
+        compare_lines::first(order, line[4]),
         line[6],
         line[7],
-        compare_lines::first_halves_mut(candidates, line[5]),
+        compare_lines::first_mut(candidates, line[5]),
     );
     numbers_of(r)
 }

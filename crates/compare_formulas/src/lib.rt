@@ -4,7 +4,6 @@
 ghost use Rattle.std.specs.Prelude.{◌≡◌, ◌+◌, ◌*◌, ◌≤◌, ◌<◌, length};
 
 use compare_lines::narrow;
-use expr_eval::Value;
 
 // The most places that a line's arrays have.
 const PLACES: usize = 80;
@@ -40,13 +39,11 @@ fn read_tokens(line: &[u64], count: usize) -> Text
     let mut ops = [0u8; PLACES];
     let mut operands = [0u64; PLACES];
     let mut end: usize = 4;
-    let mut i: usize = 0;
-    while i < count {
+    for i in 0..count {
         let op = compare_lines::number_at(line, end);
         ops[i] = compare_lines::opcode(op);
         operands[i] = operand_at(line, op, end + 1);
         end += numbers_of(op);
-        i += 1;
     }
     Text { ops, operands, end }
 }
@@ -90,11 +87,7 @@ fn value_is(
 {
     let w = narrow(line[2]);
     let to = from + nv;
-    let v = expr_eval::eval(nv as u32, w, count, ops, operands, &line[from..to]);
-    match v {
-        Value::Word(word) => word == line[to],
-        Value::Refused(_) => false,
-    }
+    expr_eval::eval(nv as u32, w, count, ops, operands, &line[from..to]) == Ok(line[to])
 }
 
 // Whether the cost is the three numbers from `from` on.
@@ -102,32 +95,20 @@ fn cost_is(line: &[u64], count: usize, ops: &[u8], operands: &[u64], from: usize
     requires { (1 < length line.now) × (from + 3 ≤ length line.now) }
 {
     let nv = narrow(line[1]);
-    let r = expr_cost::compute_cost(nv, count, ops, operands);
-    if r.refusal != 0 {
+    let Ok(cost) = expr_cost::compute_cost(nv, count, ops, operands) else {
         return false;
-    }
-    let cost = r.cost;
-    if cost.size as u64 != line[from] {
-        return false;
-    }
-    if cost.products as u64 != line[from + 1] {
-        return false;
-    }
-    cost.depth as u64 == line[from + 2]
+    };
+    let told = [cost.size as u64, cost.products as u64, cost.depth as u64];
+    compare_lines::words_same(&told, line, from)
 }
 
-// The first n numbers of a part of the line, as opcodes.
+// The n numbers from `from` on, as opcodes; zeros past them.
 fn opcodes_at(line: &[u64], from: usize, n: usize) -> [u8; 80]
     requires { (n ≤ 80) × (from + n ≤ length line.now) }
     ensures { length result ≡ 80 }
 {
-    let mut ops = [0u8; PLACES];
-    let mut i: usize = 0;
-    while i < n {
-        ops[i] = compare_lines::opcode(line[from + i]);
-        i += 1;
-    }
-    ops
+    let part = &line[from..from + n];
+    std::array::from_fn(|i| compare_lines::opcode(compare_lines::number_at(part, i)))
 }
 
 // 10 NV W COUNT OPSLEN OPERANDSLEN WORDSLEN, the arrays, EVALREFUSAL COSTREFUSAL
@@ -169,7 +150,7 @@ fn cost_refusal_is(line: &[u64], ops: &[u8], operands: &[u64], refusal: u64) -> 
     requires { 9 ≤ length line.now }
 {
     let r = expr_cost::compute_cost(narrow(line[1]), line[3] as usize, ops, operands);
-    r.refusal as u64 == refusal
+    compare_lines::refusal_of(r) == refusal
 }
 
 fn value_refusal_is(line: &[u64], ops: &[u8], operands: &[u64], words: &[u64], refusal: u64) -> bool
@@ -183,8 +164,5 @@ fn value_refusal_is(line: &[u64], ops: &[u8], operands: &[u64], words: &[u64], r
         operands,
         words,
     );
-    match v {
-        Value::Word(_) => refusal == 0,
-        Value::Refused(number) => number as u64 == refusal,
-    }
+    compare_lines::refusal_of(v) == refusal
 }

@@ -2,21 +2,13 @@
 ghost use Rattle.std.specs.Prelude.{◌+◌, ◌^◌, ◌≤◌, ◌<◌, length};
 
 use compare_lines::{OLD_HALF, OLD_WORD, narrow};
-use index::IndexAnswer;
+use index::BuiltIndex;
+pub use index::inner::Asked;
+use limits::Refusal;
 
 // Whether the first n elements have the digest and the others are as they were.
-fn halves_are(s: &[u32], n: usize, digest: u64) -> bool {
-    if compare_lines::digest_halves(s, n) != digest {
-        return false;
-    }
-    compare_lines::halves_kept(s, n)
-}
-
-fn words_are(s: &[u64], n: usize, digest: u64) -> bool {
-    if compare_lines::digest_words(s, n) != digest {
-        return false;
-    }
-    compare_lines::words_kept(s, n)
+fn part_is<T: Copy + Into<u64> + PartialEq>(s: &[T], n: usize, digest: u64, old: T) -> bool {
+    compare_lines::digest(s, n) == digest && compare_lines::kept(s, n, old)
 }
 
 // Whether the index of `atom_count` rows, of at most 500 pairs, is the one that stands from `at` on.
@@ -37,30 +29,23 @@ pub fn index_is(line: &[u64], at: usize, atom_count: usize, atom_rows: &[u64]) -
         &mut order,
         &mut work,
     );
-    let n = pairs_of(built, line[at + 3]);
-    if n != line[at + 2] {
+    let Some(n) = pairs_of(built, line[at + 3]) else {
+        return false;
+    };
+    if n as u64 != line[at + 2] {
         return false;
     }
-    arrays_are(line, at, narrow(n) as usize, &pairs, &pair_rows, &order)
+    arrays_are(line, at, n as usize, &pairs, &pair_rows, &order)
 }
 
-// How many pairs an answer has, if it has the mark; else more than there can be.
-fn pairs_of(r: IndexAnswer, mark: u64) -> u64 {
-    match r {
-        IndexAnswer::Built { pairs, cut } => {
-            if mark_of(cut) == mark {
-                pairs as u64
-            } else {
-                u64::MAX
-            }
-        }
-        IndexAnswer::Refused(_) => u64::MAX,
+// How many pairs an answer has, if it has the mark.
+fn pairs_of(r: Result<BuiltIndex, Refusal>, mark: u64) -> Option<u32> {
+    let built = r.ok()?;
+    // the mark is 1 for cut, 0 for whole
+    if u64::from(built.cut) != mark {
+        return None;
     }
-}
-
-// 1 for cut, 0 for whole.
-fn mark_of(cut: bool) -> u64 {
-    if cut { 1 } else { 0 }
+    Some(built.pairs)
 }
 
 fn arrays_are(
@@ -73,54 +58,42 @@ fn arrays_are(
 ) -> bool
     requires { (n < 2 ^ 32) × (at + 7 ≤ length line.now) }
 {
-    if !halves_are(pairs, 3 * n, line[at + 4]) {
-        return false;
-    }
-    if !words_are(pair_rows, 16 * n, line[at + 5]) {
-        return false;
-    }
-    halves_are(order, n, line[at + 6])
+    part_is(pairs, 3 * n, line[at + 4], OLD_HALF)
+        && part_is(pair_rows, 16 * n, line[at + 5], OLD_WORD)
+        && part_is(order, n, line[at + 6], OLD_HALF)
 }
 
-// Builds the index of `atom_count` rows, of at most 500 pairs: its words, its rows and its order list are left, and the count of its pairs is handed back, more
-// than there can be where it is refused.
+// Builds the index that is asked for, of at most 500 pairs: its words, its rows and its order list are left, and the count of its pairs is handed back, none
+// where it is refused.
 pub fn built_index(
     pairs: &mut [u32],
     pair_rows: &mut [u64],
     order: &mut [u32],
-    w: u64,
-    limit: u64,
-    atom_count: usize,
+    asked: Asked,
     atom_rows: &[u64],
-) -> usize {
+) -> Option<usize> {
     let mut work = [0u32; 3916];
     let built = index::build_index(
-        narrow(w),
-        atom_count,
+        asked.w,
+        asked.count,
         atom_rows,
-        limit as usize,
+        asked.limit,
         pairs,
         pair_rows,
         order,
         &mut work,
-    );
-    match built {
-        IndexAnswer::Built { pairs, cut: _ } => pairs as usize,
-        IndexAnswer::Refused(_) => 501,
-    }
+    )
+    .ok()?;
+    Some(built.pairs as usize)
 }
 
 // Its rows and its order list alone.
 pub fn built_rows(
     pair_rows: &mut [u64],
     order: &mut [u32],
-    w: u64,
-    limit: u64,
-    atom_count: usize,
+    asked: Asked,
     atom_rows: &[u64],
-) -> usize {
+) -> Option<usize> {
     let mut pairs = [0u32; 1500];
-    built_index(
-        &mut pairs, pair_rows, order, w, limit, atom_count, atom_rows,
-    )
+    built_index(&mut pairs, pair_rows, order, asked, atom_rows)
 }

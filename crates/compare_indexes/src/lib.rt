@@ -6,7 +6,6 @@ pub mod inner;
 ghost use Rattle.std.specs.Prelude.{◌≤◌, length};
 
 use compare_lines::{OLD_HALF, OLD_WORD, narrow};
-use index::IndexAnswer;
 
 // 14 W COUNT ROWSLEN LIMIT PAIRSLEN PAIRROWSLEN ORDERLEN WORKLEN REFUSAL
 pub fn index_refusal_same(line: &[u64]) -> bool {
@@ -49,33 +48,20 @@ fn index_refusal(
     let built = index::build_index(
         narrow(line[1]),
         line[2] as usize,
-        compare_lines::first_words(atom_rows, line[3]),
+        compare_lines::first(atom_rows, line[3]),
         line[4] as usize,
-        compare_lines::first_halves_mut(pairs, line[5]),
-        compare_lines::first_words_mut(pair_rows, line[6]),
-        compare_lines::first_halves_mut(order, line[7]),
-        compare_lines::first_halves_mut(work, line[8]),
+        compare_lines::first_mut(pairs, line[5]),
+        compare_lines::first_mut(pair_rows, line[6]),
+        compare_lines::first_mut(order, line[7]),
+        compare_lines::first_mut(work, line[8]),
     );
-    refusal_of(built)
-}
-
-fn refusal_of(r: IndexAnswer) -> u64 {
-    match r {
-        IndexAnswer::Built { pairs: _, cut: _ } => 0,
-        IndexAnswer::Refused(number) => number as u64,
-    }
+    compare_lines::refusal_of(built)
 }
 
 // Whether a refused build left its arrays alone.
 fn all_kept(pairs: &[u32], pair_rows: &[u64], order: &[u32], work: &[u32]) -> bool {
-    if !compare_lines::halves_kept(pairs, 0) {
-        return false;
-    }
-    if !compare_lines::words_kept(pair_rows, 0) {
-        return false;
-    }
-    if !compare_lines::halves_kept(order, 0) {
-        return false;
-    }
-    compare_lines::halves_kept(work, 0)
+    compare_lines::kept(pairs, 0, OLD_HALF)
+        && compare_lines::kept(pair_rows, 0, OLD_WORD)
+        && compare_lines::kept(order, 0, OLD_HALF)
+        && compare_lines::kept(work, 0, OLD_HALF)
 }

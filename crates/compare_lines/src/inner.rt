@@ -9,11 +9,5 @@ use crate::number_at;
 pub fn row_at(line: &[u64], base: usize) -> [u64; 16]
     requires { base ≤ 1000 }
 {
-    let mut row = [0u64; 16];
-    let mut i: usize = 0;
-    while i < 16 {
-        row[i] = number_at(line, base + i);
-        i += 1;
-    }
-    row
+    std::array::from_fn(|i| number_at(line, base + i))
 }

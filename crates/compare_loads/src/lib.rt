@@ -5,6 +5,7 @@ ghost use Rattle.std.specs.Prelude.{◌≤◌, length};
 
 use compare_lines::{OLD_BYTE, OLD_WORD, narrow};
 use expr::MAX_TOKENS;
+use limits::Refusal;
 use load_draw::DrawnFormula;
 
 // The most places that a line's arrays have.
@@ -37,19 +38,23 @@ fn drawn_same(line: &[u64], ops_expected: &[u64], operands_expected: &[u64]) -> 
     if !told_is(r, line) {
         return false;
     }
-    if !bytes_are(&ops, ops_expected) {
+    if !are(&ops, ops_expected, OLD_BYTE) {
         return false;
     }
-    words_are(&operands, operands_expected)
+    are(&operands, operands_expected, OLD_WORD)
 }
 
 // The draw over parts of the arrays, as long as the line says.
-fn draw_into_parts(ops: &mut [u8], operands: &mut [u64], line: &[u64]) -> DrawnFormula
+fn draw_into_parts(
+    ops: &mut [u8],
+    operands: &mut [u64],
+    line: &[u64],
+) -> Result<DrawnFormula, Refusal>
     requires { 10 ≤ length line.now }
 {
     load_draw::draw_formula(
-        compare_lines::first_bytes_mut(ops, line[5]),
-        compare_lines::first_words_mut(operands, line[6]),
+        compare_lines::first_mut(ops, line[5]),
+        compare_lines::first_mut(operands, line[6]),
         line[4],
         narrow(line[1]),
         narrow(line[2]),
@@ -57,17 +62,17 @@ fn draw_into_parts(ops: &mut [u8], operands: &mut [u64], line: &[u64]) -> DrawnF
     )
 }
 
-// Whether refusal, count and state are those of the line.
-fn told_is(r: DrawnFormula, line: &[u64]) -> bool
+// Whether refusal, count and state are those of the line; a refusal has no tokens, and the state stays.
+fn told_is(r: Result<DrawnFormula, Refusal>, line: &[u64]) -> bool
     requires { 10 ≤ length line.now }
 {
-    if r.refusal as u64 != line[7] {
+    if compare_lines::refusal_of(r) != line[7] {
         return false;
     }
-    if r.count as u64 != line[8] {
-        return false;
+    match r {
+        Ok(drawn) => drawn.count as u64 == line[8] && drawn.state == line[9],
+        Err(_) => line[8] == 0 && line[9] == line[4],
     }
-    r.state == line[9]
 }
 
 // What must stand at a place: what is expected there, and past that what stood there before.
@@ -79,26 +84,12 @@ fn expected_at(expected: &[u64], at: usize, old: u64) -> u64 {
     }
 }
 
-// Whether the bytes begin with what is expected, and the others are as they were.
-fn bytes_are(s: &[u8], expected: &[u64]) -> bool {
-    let mut i: usize = 0;
-    while i < s.len() {
-        if compare_lines::byte_at(s, i) != expected_at(expected, i, OLD_BYTE as u64) {
+// Whether the elements begin with what is expected, and the others are as they were.
+fn are<T: Copy + Into<u64>>(s: &[T], expected: &[u64], old: T) -> bool {
+    for i in 0..s.len() {
+        if compare_lines::number_at(s, i) != expected_at(expected, i, old.into()) {
             return false;
         }
-        i += 1;
-    }
-    true
-}
-
-// The same of words.
-fn words_are(s: &[u64], expected: &[u64]) -> bool {
-    let mut i: usize = 0;
-    while i < s.len() {
-        if s[i] != expected_at(expected, i, OLD_WORD) {
-            return false;
-        }
-        i += 1;
     }
     true
 }

@@ -3,8 +3,11 @@
 
 ghost use Rattle.std.specs.Prelude.{◌≤◌, length};
 
-use compare_lines::{narrow, number_at};
-use log_run::{Log, LogAnswer, Shown};
+use compare_lines::{narrow, number_at, refusal_of, words_same};
+use limits::Refusal;
+use log_rules::LentRules;
+use log_run::{Log, Shown};
+use rule_run::Records;
 
 // The most rules that a line has.
 const RULES: usize = 10;
@@ -62,39 +65,9 @@ fn log_is(log: Log, line: &[u64]) -> bool
     if log.begun != begun {
         return false;
     }
-    if !shown_is(log.shown, line) {
-        return false;
-    }
-    let windows = log.windows;
-    windows_are(&windows, line)
-}
-
-fn shown_is(shown: Shown, line: &[u64]) -> bool
-    requires { 28 ≤ length line.now }
-{
-    if shown.rank as u64 != line[16] {
-        return false;
-    }
-    if shown.number != line[17] {
-        return false;
-    }
-    if shown.close != line[18] {
-        return false;
-    }
-    shown.later == line[19]
-}
-
-fn windows_are(windows: &[u64; 8], line: &[u64]) -> bool
-    requires { 28 ≤ length line.now }
-{
-    let mut i: usize = 0;
-    while i < 8 {
-        if windows[i] != line[20 + i] {
-            return false;
-        }
-        i += 1;
-    }
-    true
+    let shown = log.shown;
+    let told = [shown.rank as u64, shown.number, shown.close, shown.later];
+    words_same(&told, line, 16) && words_same(&log.windows, line, 20)
 }
 
 // 27 0 LOG NEXT
@@ -181,11 +154,9 @@ fn ran_same(line: &[u64], written: usize, stride: usize, said: usize) -> bool
     if line.len() != formulas + tokens + tokens + said {
         return false;
     }
+    // beside a refusal the line has the log that it hands in
     let r = ran(line, written, stride, tokens, said);
-    if r.refusal as u64 != line[28] {
-        return false;
-    }
-    log_is(r.log, line)
+    refusal_of(r) == line[28] && log_is(r.unwrap_or(log_of(line)), line)
 }
 
 // How many numbers so many rules have.
@@ -196,8 +167,14 @@ fn times(stride: usize, rules: usize) -> usize
     stride * rules
 }
 
-// The run over the arrays that the line has.
-fn ran(line: &[u64], written: usize, stride: usize, tokens: usize, said: usize) -> LogAnswer
+// The run over the arrays that the line has, as long as it says.
+fn ran(
+    line: &[u64],
+    written: usize,
+    stride: usize,
+    tokens: usize,
+    said: usize,
+) -> Result<Log, Refusal>
     requires { (43 ≤ length line.now) × (written ≤ 10) × (stride ≤ 64) × (tokens ≤ 640) × (said ≤ 512) }
 {
     let formulas = RANKS + 4 * written;
@@ -207,39 +184,23 @@ fn ran(line: &[u64], written: usize, stride: usize, tokens: usize, said: usize) 
     let counts = values_at(line, RANKS + 3 * written);
     let ops = ops_at(line, formulas, stride);
     let operands = operands_at(line, formulas + tokens, stride);
-    let records = records_at(line, formulas + tokens + tokens, said);
-    run_over_parts(
-        line, &ranks, &ms, &windows, &counts, &ops, &operands, &records,
-    )
-}
-
-// The run over parts of the arrays, as long as the line says.
-fn run_over_parts(
-    line: &[u64],
-    ranks: &[u32],
-    ms: &[u32],
-    windows: &[u32],
-    counts: &[u32],
-    ops: &[u8],
-    operands: &[u64],
-    records: &[u64],
-) -> LogAnswer
-    requires { 43 ≤ length line.now }
-{
-    log_run::run_log(
-        log_of(line),
-        line[31] as usize,
-        compare_lines::first_halves(ranks, line[33]),
-        compare_lines::first_halves(ms, line[34]),
-        compare_lines::first_halves(windows, line[35]),
-        compare_lines::first_halves(counts, line[36]),
-        compare_lines::first_bytes(ops, line[37]),
-        compare_lines::first_words(operands, line[38]),
-        narrow(line[29]),
-        narrow(line[30]),
-        line[32] as usize,
-        compare_lines::first_words(records, line[39]),
-    )
+    let words = records_at(line, formulas + tokens + tokens, said);
+    let rules = LentRules {
+        count: line[31] as usize,
+        ranks: compare_lines::first(&ranks, line[33]),
+        ms: compare_lines::first(&ms, line[34]),
+        windows: compare_lines::first(&windows, line[35]),
+        token_counts: compare_lines::first(&counts, line[36]),
+        ops: compare_lines::first(&ops, line[37]),
+        operands: compare_lines::first(&operands, line[38]),
+    };
+    let records = Records {
+        nv: narrow(line[29]),
+        w: narrow(line[30]),
+        n: line[32] as usize,
+        words: compare_lines::first(&words, line[39]),
+    };
+    log_run::run_log(log_of(line), &rules, &records)
 }
 
 // ---- arrays
@@ -249,10 +210,8 @@ fn values_at(line: &[u64], base: usize) -> [u32; 10]
     requires { base ≤ 100 }
 {
     let mut values = [0u32; RULES];
-    let mut i: usize = 0;
-    while i < RULES {
+    for i in 0..RULES {
         values[i] = narrow(number_at(line, base + i));
-        i += 1;
     }
     values
 }
@@ -271,25 +230,13 @@ fn token_at(line: &[u64], base: usize, stride: usize, place: usize, rest: u64) -
 fn ops_at(line: &[u64], base: usize, stride: usize) -> [u8; 640]
     requires { (base ≤ 1000) × (stride ≤ 64) }
 {
-    let mut ops = [0u8; PLACES];
-    let mut i: usize = 0;
-    while i < PLACES {
-        ops[i] = compare_lines::opcode(token_at(line, base, stride, i, 255));
-        i += 1;
-    }
-    ops
+    std::array::from_fn(|i| compare_lines::opcode(token_at(line, base, stride, i, 255)))
 }
 
 fn operands_at(line: &[u64], base: usize, stride: usize) -> [u64; 640]
     requires { (base ≤ 1000) × (stride ≤ 64) }
 {
-    let mut operands = [0u64; PLACES];
-    let mut i: usize = 0;
-    while i < PLACES {
-        operands[i] = token_at(line, base, stride, i, 0);
-        i += 1;
-    }
-    operands
+    std::array::from_fn(|i| token_at(line, base, stride, i, 0))
 }
 
 // A word of records, of which the line has the first `said`; they repeat.
@@ -305,11 +252,5 @@ fn record_word(line: &[u64], base: usize, said: usize, place: usize) -> u64
 fn records_at(line: &[u64], base: usize, said: usize) -> [u64; 640]
     requires { (base ≤ 2000) × (said ≤ 512) }
 {
-    let mut words = [0u64; PLACES];
-    let mut i: usize = 0;
-    while i < PLACES {
-        words[i] = record_word(line, base, said, i);
-        i += 1;
-    }
-    words
+    std::array::from_fn(|i| record_word(line, base, said, i))
 }

@@ -3,8 +3,11 @@
 
 ghost use Rattle.std.specs.Prelude.{◌+◌, ◌≤◌, length};
 
-use compare_lines::{OLD_HALF, OLD_WORD, narrow};
-use search_product::ProductAnswer;
+use compare_indexes::inner::Asked;
+use compare_lines::{OLD_HALF, OLD_WORD, narrow, words_same};
+use limits::Refusal;
+use search_product_forms::inner::LentForms;
+use search_product_trial::inner::{Found, Search};
 
 // 16 NV W, the points' words, the target, W2 W3 LIMIT, the row, ANSWER A B
 pub fn product_same(line: &[u64]) -> bool {
@@ -49,54 +52,50 @@ fn search_is(
     let mut pairs = [OLD_HALF; 1500];
     let mut pair_rows = [OLD_WORD; 8000];
     let mut order = [OLD_HALF; 500];
-    let n = compare_indexes::inner::built_index(
+    let asked = Asked {
+        w: narrow(line[at]),
+        count,
+        limit: line[at + 2] as usize,
+    };
+    let Some(n) = compare_indexes::inner::built_index(
         &mut pairs,
         &mut pair_rows,
         &mut order,
-        line[at],
-        line[at + 2],
-        count,
+        asked,
         rows,
-    );
+    ) else {
+        return false;
+    };
     let row = compare_lines::inner::row_at(line, at + 3);
-    let r = search_product::product_search(
-        narrow(line[at + 1]),
+    let forms = LentForms {
         count,
         lengths,
         ops,
         operands,
-        rows,
         n,
-        &pairs,
-        &pair_rows,
-        &order,
-        row,
-    );
+        pairs: &pairs,
+    };
+    let r = search_product::product_search(&Search {
+        forms,
+        atoms: rows,
+        listed: &pair_rows,
+        order: &order,
+        target: &row,
+        w: narrow(line[at + 1]),
+    });
     product_is(r, line, at + 19)
 }
 
 // Whether the answer is the one from `at` on.
-fn product_is(r: ProductAnswer, line: &[u64], at: usize) -> bool
+fn product_is(r: Result<Option<Found>, Refusal>, line: &[u64], at: usize) -> bool
     requires { at + 3 ≤ length line.now }
 {
     match r {
-        ProductAnswer::Atoms(a, b) => answer_is(line, at, 1, a.0, b.0),
-        ProductAnswer::AtomPair(a, s) => answer_is(line, at, 2, a.0, s.0),
-        ProductAnswer::Nothing => answer_is(line, at, 0, 0, 0),
-        ProductAnswer::Refused(_) => false,
+        Ok(Some(Found::Atoms(a, b))) => words_same(&[1, a.0 as u64, b.0 as u64], line, at),
+        Ok(Some(Found::AtomPair(a, s))) => words_same(&[2, a.0 as u64, s.0 as u64], line, at),
+        Ok(None) => words_same(&[0, 0, 0], line, at),
+        Err(_) => false,
     }
-}
-
-fn answer_is(line: &[u64], at: usize, answer: u64, a: u32, b: u32) -> bool
-    requires { at + 3 ≤ length line.now }
-{
-    if line[at] != answer {
-        return false;
-    }
-    if line[at + 1] != a as u64 {
-        return false;
-    }
-    line[at + 2] == b as u64
 }
 
 // 17 W COUNT LENGTHSLEN OPSLEN OPERANDSLEN ATOMSLEN N PAIRSLEN LISTEDLEN ORDERLEN WORD SWAP BADATOM LENGTH OP OPERAND BADPAIR GATE B C REFUSAL
@@ -117,14 +116,8 @@ pub fn product_refusal_same(line: &[u64]) -> bool {
 
 // Makes each atom's first token the constant 0.
 fn zero_formulas(ops: &mut [u8]) {
-    let mut at: usize = 0;
-    while at < ops.len() {
-        let left = ops.len() - at;
-        ops[at] = 0;
-        if left <= 6 {
-            return;
-        }
-        at += 6;
+    for i in (0..ops.len()).step_by(6) {
+        ops[i] = 0;
     }
 }
 
@@ -135,14 +128,9 @@ fn put_atom(lengths: &mut [u32], ops: &mut [u8], operands: &mut [u64], line: &[u
     if line[13] < 479 {
         let k = line[13] as usize;
         lengths[k] = narrow(line[14]);
-        ops[6 * k] = narrow_byte(line[15]);
+        ops[6 * k] = compare_lines::opcode(line[15]);
         operands[6 * k] = line[16];
     }
-}
-
-// A number above 255 counts as 255, which is no opcode either.
-fn narrow_byte(x: u64) -> u8 {
-    if x < 256 { x as u8 } else { 255 }
 }
 
 // The words of one pair.
@@ -177,25 +165,21 @@ fn product_refusal(
     let rows = [0u64; 8000];
     let mut target = [0u64; 16];
     target[15] = line[11];
-    let r = search_product::product_search(
-        narrow(line[1]),
-        line[2] as usize,
-        compare_lines::first_halves(lengths, line[3]),
-        compare_lines::first_bytes(ops, line[4]),
-        compare_lines::first_words(operands, line[5]),
-        compare_lines::first_words(&rows, line[6]),
-        line[7] as usize,
-        compare_lines::first_halves(pairs, line[8]),
-        compare_lines::first_words(&rows, line[9]),
-        compare_lines::first_halves(order, line[10]),
-        target,
-    );
-    refusal_of(r)
-}
-
-fn refusal_of(r: ProductAnswer) -> u64 {
-    match r {
-        ProductAnswer::Refused(number) => number as u64,
-        _ => 0,
-    }
+    let forms = LentForms {
+        count: line[2] as usize,
+        lengths: compare_lines::first(lengths, line[3]),
+        ops: compare_lines::first(ops, line[4]),
+        operands: compare_lines::first(operands, line[5]),
+        n: line[7] as usize,
+        pairs: compare_lines::first(pairs, line[8]),
+    };
+    let r = search_product::product_search(&Search {
+        forms,
+        atoms: compare_lines::first(&rows, line[6]),
+        listed: compare_lines::first(&rows, line[9]),
+        order: compare_lines::first(order, line[10]),
+        target: &target,
+        w: narrow(line[1]),
+    });
+    compare_lines::refusal_of(r)
 }

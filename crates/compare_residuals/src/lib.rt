@@ -3,8 +3,11 @@
 
 ghost use Rattle.std.specs.Prelude.{◌+◌, ◌≤◌, length};
 
-use compare_lines::{OLD_HALF, OLD_WORD, narrow};
-use search_residual::ResidualAnswer;
+use compare_indexes::inner::Asked;
+use compare_lines::{OLD_HALF, OLD_WORD, narrow, words_same};
+use limits::Refusal;
+use row_gates::Gate;
+use search_residual_trial::inner::Found;
 
 // 21 NV W, the points' words, the target, W2 W3 LIMIT, the row, ANSWER GATE A B
 pub fn residual_same(line: &[u64]) -> bool {
@@ -30,14 +33,15 @@ fn search_is(line: &[u64], at: usize, atom_count: usize, atom_rows: &[u64]) -> b
 {
     let mut pair_rows = [OLD_WORD; 8000];
     let mut order = [OLD_HALF; 500];
-    let n = compare_indexes::inner::built_rows(
-        &mut pair_rows,
-        &mut order,
-        line[at],
-        line[at + 2],
-        atom_count,
-        atom_rows,
-    );
+    let asked = Asked {
+        w: narrow(line[at]),
+        count: atom_count,
+        limit: line[at + 2] as usize,
+    };
+    let Some(n) = compare_indexes::inner::built_rows(&mut pair_rows, &mut order, asked, atom_rows)
+    else {
+        return false;
+    };
     let row = compare_lines::inner::row_at(line, at + 3);
     let r = search_residual::residual_search(
         narrow(line[at + 1]),
@@ -51,34 +55,22 @@ fn search_is(line: &[u64], at: usize, atom_count: usize, atom_rows: &[u64]) -> b
 }
 
 // Whether the answer is the one from `at` on.
-fn residual_is(r: ResidualAnswer, line: &[u64], at: usize) -> bool
+fn residual_is(r: Result<Option<Found>, Refusal>, line: &[u64], at: usize) -> bool
     requires { at + 4 ≤ length line.now }
 {
     match r {
-        ResidualAnswer::Atoms(g, a, b) => {
-            answer_is(line, at, 1, row_gates::inner::gate_number(g), a.0, b.0)
-        }
-        ResidualAnswer::AtomPair(g, a, s) => {
-            answer_is(line, at, 2, row_gates::inner::gate_number(g), a.0, s.0)
-        }
-        ResidualAnswer::Nothing => answer_is(line, at, 0, 0, 0, 0),
-        ResidualAnswer::Refused(_) => false,
+        Ok(Some(Found::Atoms(g, a, b))) => told_is(1, g, a.0, b.0, line, at),
+        Ok(Some(Found::AtomPair(g, a, s))) => told_is(2, g, a.0, s.0, line, at),
+        Ok(None) => words_same(&[0, 0, 0, 0], line, at),
+        Err(_) => false,
     }
 }
 
-fn answer_is(line: &[u64], at: usize, answer: u64, gate: u32, a: u32, b: u32) -> bool
+// Whether the parts found, atoms 1 or atom and pair 2, are the four numbers from `at` on.
+fn told_is(parts: u64, g: Gate, a: u32, b: u32, line: &[u64], at: usize) -> bool
     requires { at + 4 ≤ length line.now }
 {
-    if line[at] != answer {
-        return false;
-    }
-    if line[at + 1] != gate as u64 {
-        return false;
-    }
-    if line[at + 2] != a as u64 {
-        return false;
-    }
-    line[at + 3] == b as u64
+    words_same(&[parts, u32::from(g) as u64, a as u64, b as u64], line, at)
 }
 
 // 22 W COUNT ATOMSLEN N LISTEDLEN WORD REFUSAL
@@ -93,19 +85,12 @@ pub fn residual_refusal_same(line: &[u64]) -> bool {
     let r = search_residual::residual_search(
         narrow(line[1]),
         line[2] as usize,
-        compare_lines::first_words(&atom_rows, line[3]),
+        compare_lines::first(&atom_rows, line[3]),
         line[4] as usize,
-        compare_lines::first_words(&pair_rows, line[5]),
+        compare_lines::first(&pair_rows, line[5]),
         target,
     );
-    refusal_of(r) == line[7]
-}
-
-fn refusal_of(r: ResidualAnswer) -> u64 {
-    match r {
-        ResidualAnswer::Refused(number) => number as u64,
-        _ => 0,
-    }
+    compare_lines::refusal_of(r) == line[7]
 }
 
 // 23 W COUNT N, the atoms' words, the pairs' words, the target, ANSWER GATE A B

@@ -4,7 +4,8 @@
 ghost use Rattle.std.specs.Prelude.{◌≤◌, length};
 
 use compare_lines::{OLD_BYTE, narrow};
-use rule_run::{RuleAnswer, RuleState};
+use limits::Refusal;
+use rule_run::{LentRule, Records, RuleState};
 
 // The most places for opcodes and for answers.
 const PLACES: usize = 100;
@@ -72,12 +73,10 @@ fn run_same(line: &[u64], a: usize, b: usize, c: usize) -> bool
     answers_are(&answers, &line[c..], answered(line))
 }
 
-// Opcodes into the first places, 0 past them.
+// Opcodes into the first places, 0 past them. Not as lines about logs and formulas: the places are lent here, and 0 is past them.
 fn put_opcodes(s: &mut [u8], opcodes: &[u64]) {
-    let mut i: usize = 0;
-    while i < s.len() {
+    for i in 0..s.len() {
         s[i] = compare_lines::opcode(compare_lines::number_at(opcodes, i));
-        i += 1;
     }
 }
 
@@ -87,33 +86,38 @@ fn run_over_parts(
     line: &[u64],
     ops: &[u8],
     operands: &[u64],
-    records: &[u64],
-) -> RuleAnswer
+    words: &[u64],
+) -> Result<RuleState, Refusal>
     requires { 14 ≤ length line.now }
 {
-    rule_run::run_rule(
-        compare_lines::first_bytes_mut(answers, line[11]),
-        narrow(line[1]),
-        narrow(line[2]),
-        line[7] as usize,
-        compare_lines::first_bytes(ops, line[8]),
+    let rule = LentRule {
+        token_count: line[7] as usize,
+        ops: compare_lines::first(ops, line[8]),
         operands,
-        narrow(line[3]),
-        narrow(line[4]),
-        RuleState { past: line[5] },
-        line[6] as usize,
-        records,
-    )
+        m: narrow(line[3]),
+        window: narrow(line[4]),
+    };
+    let records = Records {
+        nv: narrow(line[1]),
+        w: narrow(line[2]),
+        n: line[6] as usize,
+        words,
+    };
+    let answers = compare_lines::first_mut(answers, line[11]);
+    rule_run::run_rule(answers, &rule, RuleState { past: line[5] }, &records)
 }
 
-// Whether refusal and state are those of the line.
-fn told_is(r: RuleAnswer, line: &[u64]) -> bool
+// Whether refusal and state are those of the line; where it is refused the state stays.
+fn told_is(r: Result<RuleState, Refusal>, line: &[u64]) -> bool
     requires { 14 ≤ length line.now }
 {
-    if r.refusal as u64 != line[12] {
+    if compare_lines::refusal_of(r) != line[12] {
         return false;
     }
-    r.state.past == line[13]
+    match r {
+        Ok(state) => state.past == line[13],
+        Err(_) => line[5] == line[13],
+    }
 }
 
 // What must stand at a place: the answer, and past the answers what stood there before.
@@ -126,12 +130,10 @@ fn expected_at(words: &[u64], count: usize, at: usize) -> u64 {
 
 // Whether the places begin with so many answers, packed 64 to a word, and the others are as they were.
 fn answers_are(answers: &[u8], words: &[u64], count: usize) -> bool {
-    let mut i: usize = 0;
-    while i < answers.len() {
-        if compare_lines::byte_at(answers, i) != expected_at(words, count, i) {
+    for i in 0..answers.len() {
+        if compare_lines::number_at(answers, i) != expected_at(words, count, i) {
             return false;
         }
-        i += 1;
     }
     true
 }

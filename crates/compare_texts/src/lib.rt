@@ -2,56 +2,51 @@
 // program, must print of it, and a line end.
 #![tactic(auto)]
 
-use listing::ListingAnswer;
 use text_parse::Parse;
 
-// The kinds, one for each program.
-const LISTING: u64 = 20;
+// Whose text a case has, by the number of its kind.
+#[derive(Clone, Copy)]
+enum Program {
+    Listing,
+    Load,
+}
 
-const LOAD: u64 = 25;
+fn program_of(kind: u64) -> Option<Program> {
+    match kind {
+        20 => Some(Program::Listing),
+        25 => Some(Program::Load),
+        _ => None,
+    }
+}
 
 // The longest text in a file, and the most that is printed.
 const TEXT_MAX: u64 = 0x100_0000;
 
 pub const PRINTED_MAX: usize = 131072;
 
-// Where a case stands.
+// Where a case stands that is open.
 #[derive(Clone, Copy)]
 pub struct Case {
-    pub open: bool,
-    // which program's
-    pub kind: u64,
+    program: Program,
     // the number of its line
     pub line: u64,
     // bytes of the text that are to come
-    pub text_left: u64,
-    pub parse: Parse,
+    text_left: u64,
+    parse: Parse,
     // what the program prints of the text is in the buffer
-    pub written: bool,
+    written: bool,
     // bytes that must be printed, and how many of them have come
-    pub expected: usize,
-    pub at: usize,
+    expected: usize,
+    at: usize,
     // as long as expected, and no byte differs so far
-    pub same: bool,
+    same: bool,
 }
 
-fn is_kind(kind: u64) -> bool {
-    kind == LISTING || kind == LOAD
-}
-
-// No case.
-pub fn none() -> Case {
-    Case {
-        open: false,
-        kind: 0,
-        line: 0,
-        text_left: 0,
-        parse: text_parse::begin(),
-        written: false,
-        expected: 0,
-        at: 0,
-        same: false,
-    }
+// A case after a byte: still open, or at its end, the same or not.
+#[derive(Clone, Copy)]
+pub enum Fed {
+    Open(Case),
+    Ended(bool),
 }
 
 // 20 A B or 25 A B
@@ -59,7 +54,7 @@ pub fn head_same(line: &[u64]) -> bool {
     if line.len() != 3 {
         return false;
     }
-    if !is_kind(line[0]) {
+    if program_of(line[0]).is_none() {
         return false;
     }
     if TEXT_MAX < line[1] {
@@ -69,20 +64,20 @@ pub fn head_same(line: &[u64]) -> bool {
 }
 
 // The case that line number `number` opens, if it opens one.
-pub fn begin(line: &[u64], number: u64) -> Case {
-    let mut c = none();
-    if line.len() != 3 {
-        return c;
+pub fn begin(line: &[u64], number: u64) -> Option<Case> {
+    if line.len() != 3 || !head_same(line) {
+        return None;
     }
-    if !head_same(line) {
-        return c;
-    }
-    c.open = true;
-    c.kind = line[0];
-    c.line = number;
-    c.text_left = line[1];
-    c.expected = line[2] as usize;
-    c
+    Some(Case {
+        program: program_of(line[0])?,
+        line: number,
+        text_left: line[1],
+        parse: text_parse::begin(),
+        written: false,
+        expected: line[2] as usize,
+        at: 0,
+        same: false,
+    })
 }
 
 // One byte more of the text.
@@ -98,58 +93,47 @@ fn feed_text(mut c: Case, byte: u8) -> Case {
 
 // The text is at its end: what the program prints of it.
 fn write(out: &mut [u8], c: Case) -> Case {
-    if c.kind == LOAD {
-        return write_load(out, c);
+    match c.program {
+        Program::Listing => write_listing(out, c),
+        Program::Load => write_load(out, c),
     }
-    write_listing(out, c)
 }
 
 // The load that the text asks for, whole: what is expected in the data is short enough for one buffer, and a load that isn't differs.
 fn write_load(out: &mut [u8], mut c: Case) -> Case {
     c.written = true;
-    let part = load_text::write_some(out, load_text::start(c.parse));
-    let whole = part.refusal == 0 && load_text::left(part.load) == 0;
-    c.same = whole && part.length == c.expected;
+    c.same = match load_text::write_some(out, load_text::start(c.parse)) {
+        Ok(part) => load_text::left(part.load) == 0 && part.length == c.expected,
+        Err(_) => false,
+    };
     c
 }
 
 // The listing that the text asks for.
 fn write_listing(out: &mut [u8], mut c: Case) -> Case {
     c.written = true;
-    let answer = listing::write_listing(out, c.parse);
-    match answer {
-        ListingAnswer::Written(n) => {
-            c.same = n == c.expected;
-        }
-        ListingAnswer::Refused(_) => {
-            c.same = false;
-        }
-    }
+    c.same = listing::write_listing(out, c.parse) == Ok(c.expected);
     c
 }
 
 // One byte more of what must be printed, or the line end after it.
-fn feed_printed(out: &[u8], mut c: Case, byte: u8) -> Case {
+fn feed_printed(out: &[u8], mut c: Case, byte: u8) -> Fed {
     let at = c.at;
     if at == c.expected {
-        c.open = false;
-        c.same = c.same && byte == b'\n';
-        return c;
+        return Fed::Ended(c.same && byte == b'\n');
     }
     if out.len() <= at {
-        c.open = false;
-        c.same = false;
-        return c;
+        return Fed::Ended(false);
     }
     c.same = c.same && out[at] == byte;
     c.at = at + 1;
-    c
+    Fed::Open(c)
 }
 
 // One byte more of an open case.
-pub fn feed(out: &mut [u8], c: Case, byte: u8) -> Case {
+pub fn feed(out: &mut [u8], c: Case, byte: u8) -> Fed {
     if 0 < c.text_left {
-        return feed_text(c, byte);
+        return Fed::Open(feed_text(c, byte));
     }
     if c.written {
         return feed_printed(out, c, byte);

@@ -5,7 +5,7 @@ use mathlib.Core.List.{List, [], ◌∷◌, ◌++◌, map}
 use Prim.Native.Nat.{ℕ, zero, suc, ◌+◌, ◌≤◌, ◌<◌}
 use native.Mathlib.Numerals.{add-one}
 use native.Mathlib.Omega.{arith}
-use borrow.Author.Tests.{lt-ltb, le-ltb}
+use borrow.Author.Tests.{lt-ltb}
 use lib.Dec.{leb-suc-suc}
 use lib.ListN.{length, get_or, take, drop, length-append, get_or-append}
 use lib.Seq.{get_or_at, drop-cons, take_all, take-append-le}
@@ -16,58 +16,11 @@ use Rattle.expr.specs.declared.Token.{Token}
 use Rattle.expr.specs.declared.Token.TheVariants.{Constant, Variable, Binary, Not, Neg, Bad}
 use Rattle.expr.specs.Formula.{token_of, opcode_of, operand_of, token_at, tokens}
 
--- ---- one token
--- an operand that is not used and not 0
-pub token_unused : (o k : ℕ) → (o ≡ 0 → ⊥) → (o ≡ 1 → ⊥) → (k ≡ 0 → ⊥) → Bad ≡ token_of o k
-unfolding token_of
-token_unused o zero h i n = absurd (n refl)
-token_unused zero (suc k) h i n = absurd (h refl)
-token_unused (suc zero) (suc k) h i n = absurd (i refl)
-token_unused (suc (suc zero)) (suc k) h i n = refl
-token_unused (suc (suc (suc zero))) (suc k) h i n = refl
-token_unused (suc (suc (suc (suc zero)))) (suc k) h i n = refl
-token_unused (suc (suc (suc (suc (suc zero))))) (suc k) h i n = refl
-token_unused (suc (suc (suc (suc (suc (suc zero)))))) (suc k) h i n = refl
-token_unused (suc (suc (suc (suc (suc (suc (suc zero))))))) (suc k) h i n = refl
-token_unused (suc (suc (suc (suc (suc (suc (suc (suc zero)))))))) (suc k) h i n = refl
-token_unused (suc (suc (suc (suc (suc (suc (suc (suc (suc o))))))))) (suc k) h i n = refl
-
--- an opcode above 8
-pub token_high : (o k : ℕ) → 8 < o → Bad ≡ token_of o k
-unfolding token_of
-token_high zero k h = absurd (omega arith)
-token_high (suc zero) k h = absurd (omega arith)
-token_high (suc (suc zero)) k h = absurd (omega arith)
-token_high (suc (suc (suc zero))) k h = absurd (omega arith)
-token_high (suc (suc (suc (suc zero)))) k h = absurd (omega arith)
-token_high (suc (suc (suc (suc (suc zero))))) k h = absurd (omega arith)
-token_high (suc (suc (suc (suc (suc (suc zero)))))) k h = absurd (omega arith)
-token_high (suc (suc (suc (suc (suc (suc (suc zero))))))) k h = absurd (omega arith)
-token_high (suc (suc (suc (suc (suc (suc (suc (suc zero)))))))) k h = absurd (omega arith)
-token_high (suc (suc (suc (suc (suc (suc (suc (suc (suc o))))))))) k h = refl
-
-above : {o n : ℕ} → n ≤ o → (o ≡ n → ⊥) → n < o
-above h k = omega arith
-
-from_zero : (o : ℕ) → 0 ≤ o
-from_zero o = omega arith
-
-pub high : (o : ℕ) → (o ≡ 0 → ⊥) → (o ≡ 1 → ⊥) → (o ≡ 2 → ⊥) → (o ≡ 3 → ⊥) → (o ≡ 4 → ⊥) → (o ≡ 5 → ⊥) → (o ≡ 6 → ⊥) → (o ≡ 7 → ⊥) → (o ≡ 8 → ⊥) → 8 < o
-high o a b c d e f g h i = above (above (above (above (above (above (above (above (above (from_zero o) a) b) c) d) e) f) g) h) i
-
 -- ---- the token at a place
 module _ (ops operands : List ℕ) (i : ℕ) where
   pub token_in : i < length ops → i < length operands → token_at ops operands i ≡ token_of (get_or ops i 0) (get_or operands i 0)
   unfolding token_at
   token_in h k = simp (lt-ltb i (length ops) h, lt-ltb i (length operands) k)
-
-  pub token_past-ops : length ops ≤ i → token_at ops operands i ≡ Bad
-  unfolding token_at
-  token_past-ops h = simp (le-ltb i (length ops) h)
-
-  pub token_past-operands : i < length ops → length operands ≤ i → token_at ops operands i ≡ Bad
-  unfolding token_at
-  token_past-operands h k = simp (lt-ltb i (length ops) h, le-ltb i (length operands) k)
 
 -- ---- the first tokens
 module _ (ops operands : List ℕ) where

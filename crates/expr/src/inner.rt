@@ -6,8 +6,5 @@ ghost use Rattle.expr.specs.Answers.{too_short};
 pub fn too_short(count: usize, ops: &[u8], operands: &[u64]) -> bool
     ensures { result ≡ too_short count ops.now operands.now }
 {
-    if ops.len() < count {
-        return true;
-    }
-    operands.len() < count
+    ops.len() < count || operands.len() < count
 }

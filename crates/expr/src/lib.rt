@@ -12,7 +12,7 @@ use row_gates::Gate;
 // The most tokens that a formula has.
 pub const MAX_TOKENS: usize = 64;
 
-// A token of a formula; `Bad` is whatever is none.
+// A token of a formula; `Bad` is whatever is none: a case of its own, since the test and the algebras are over lists of what stands at each place, whatever that is.
 #[derive(Clone, Copy)]
 pub enum Token {
     Constant(u64),
@@ -31,6 +31,7 @@ pub fn token_at(ops: &[u8], operands: &[u64], at: usize) -> Token
 }
 
 // The token of an opcode and its operand; `Bad` where the opcode is unknown, or an operand that isn't used isn't 0.
+#[tactic(auto, unfolding(crate::specs::Formula::token_of))]
 fn token_of(opcode: u8, operand: u64) -> Token
     ensures { result ≡ token_of opcode operand }
 {
@@ -56,30 +57,26 @@ fn token_of(opcode: u8, operand: u64) -> Token
 }
 
 // Whether a token may stand in a formula over nv variables.
+#[tactic(auto, unfolding(crate::specs::Formula::known))]
 fn is_known(t: Token, nv: u32) -> bool
     ensures { result ≡ known nv t }
 {
     match t {
-        Token::Constant(_) => true,
         Token::Variable(i) => i < nv as u64,
-        Token::Binary(_) => true,
-        Token::Not => true,
-        Token::Neg => true,
         Token::Bad => false,
+        _ => true,
     }
 }
 
 // How many values a token takes.
+#[tactic(auto, unfolding(crate::specs::Formula::arity))]
 pub fn takes(t: Token) -> usize
     ensures { result ≡ arity t }
 {
     match t {
-        Token::Constant(_) => 0,
-        Token::Variable(_) => 0,
         Token::Binary(_) => 2,
-        Token::Not => 1,
-        Token::Neg => 1,
-        Token::Bad => 0,
+        Token::Not | Token::Neg => 1,
+        Token::Constant(_) | Token::Variable(_) | Token::Bad => 0,
     }
 }
 
@@ -94,10 +91,8 @@ pub fn is_formula(nv: u32, token_count: usize, ops: &[u8], operands: &[u64]) -> 
         return false;
     }
     let mut depth: usize = 0;
-    let mut i: usize = 0;
-    while i < token_count {
+    for i in 0..token_count {
         let t = token_at(ops, operands, i);
-        i += 1;
         if !is_known(t, nv) {
             return false;
         }

@@ -29,6 +29,7 @@ pub fn next<'a, 'b>(r: Reader<'a, 'b>) -> Token
 }
 
 // The work: the token at a place of the two arrays, `Bad` past the end of either.
+#[tactic(auto, unfolding(crate::specs::Formula::token_at))]
 fn step(ops: &[u8], operands: &[u64], at: usize) -> Token
     ensures { result ≡ token_at ops.now operands.now at }
 {

@@ -2,8 +2,8 @@
 use mathlib.Core.Path.{◌≡◌, refl, sym, ap, ◌∙◌}
 use mathlib.Core.Logic.{◌⊎◌, inl, inr}
 use mathlib.Core.Bool.{Bool, true, false, cond}
-use Prim.Native.Nat.{ℕ, ◌+◌, ◌<◌, max}
-use native.Mathlib.Nat.{add-zero, add_comm, max_comm}
+use Prim.Native.Nat.{ℕ, ◌+◌, ◌<◌}
+use native.Mathlib.Nat.{add_comm, max_comm}
 use native.Mathlib.Decide.{ℕ_discrete}
 use native.Mathlib.Omega.{arith}
 use lib.Dec.{ltb}
@@ -115,14 +115,3 @@ gate_swaps n a b = same-cost (under_gate n a b) (under_gate n b a)
     (ap (λ (x : ℕ). x + cond n 3 1) (add_comm a.size b.size))
     (ap (λ (x : ℕ). x + cond n 1 0) (add_comm a.products b.products))
     (ap (λ (x : ℕ). x + 1) (max_comm a.depth b.depth))
-
--- ---- a gate's cost, from the deeper operand's depth
-module _ (a b : Cost) (n : Bool) (k : ℕ) (deep : k ≡ max a.depth b.depth) where
-  pub gate_nonlinear : n ≡ true → ◌≡◌ {A = Cost} (record { size = a.size + b.size + 3; products = a.products + b.products + 1; depth = k + 1 }) (under_gate n a b)
-  gate_nonlinear p =
-      λ i. record { size = a.size + b.size + cond (sym p i) 3 1; products = a.products + b.products + cond (sym p i) 1 0; depth = deep i + 1 }
-
-  pub gate_linear : n ≡ false → ◌≡◌ {A = Cost} (record { size = a.size + b.size + 1; products = a.products + b.products; depth = k + 1 }) (under_gate n a b)
-  gate_linear p =
-      ap {B = Cost} (λ (x : ℕ). record { size = a.size + b.size + 1; products = x; depth = k + 1 }) (sym (add-zero (a.products + b.products)))
-      ∙ λ i. record { size = a.size + b.size + cond (sym p i) 3 1; products = a.products + b.products + cond (sym p i) 1 0; depth = deep i + 1 }

@@ -97,7 +97,7 @@ impl Cost {
         requires { Roomy self × Roomy other }
         ensures { result ≡ under_gate nonlinear self other }
     {
-        let depth = deeper(self.depth, other.depth) + 1;
+        let depth = self.depth.max(other.depth) + 1;
         if nonlinear {
             Cost {
                 size: self.size + other.size + PRODUCT_SIZE,
@@ -112,12 +112,6 @@ impl Cost {
             }
         }
     }
-}
-
-fn deeper(a: u32, b: u32) -> u32
-    ensures { result ≡ max a b }
-{
-    if a < b { b } else { a }
 }
 
 impl CostInfo {
@@ -153,26 +147,18 @@ impl CostInfo {
         let cost = a.under_gate(b, is_nonlinear(g, self.varies, other.varies));
         CostInfo {
             cost,
-            varies: either(self.varies, other.varies),
+            varies: self.varies || other.varies,
         }
     }
 }
 
 // Mul with a variable under both operands.
+#[tactic(auto, unfolding(crate::specs::Cost::is_nonlinear))]
 fn is_nonlinear(g: Gate, a: bool, b: bool) -> bool
     ensures { result ≡ is_nonlinear g a b }
 {
     match g {
-        Gate::And => false,
-        Gate::Or => false,
-        Gate::Xor => false,
-        Gate::Add => false,
-        Gate::Mul => if a { b } else { false },
+        Gate::Mul => a && b,
+        _ => false,
     }
-}
-
-fn either(a: bool, b: bool) -> bool
-    ensures { result ≡ (a || b) }
-{
-    if a { true } else { b }
 }

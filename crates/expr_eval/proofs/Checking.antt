@@ -8,7 +8,7 @@ use native.Mathlib.Omega.{arith}
 use borrow.Author.Tests.{lt-ltb, eq-eqb, ne_eqb}
 use lib.ListN.{length, get_or, set, length-set}
 use Rattle.arith.specs.Word.{not_of, neg_of}
-use Rattle.limits.specs.Refusal.{refuse, outcome}
+use Rattle.limits.specs.Refusal.{refused, answer, refuse, outcome}
 use Rattle.row_gates.specs.Gates.{gate_of}
 use Rattle.row_gates.specs.declared.Gate.{Gate}
 use Rattle.expr.specs.declared.Token.{Token}
@@ -16,23 +16,22 @@ use Rattle.expr.specs.declared.Token.TheVariants.{Constant, Variable, Binary, No
 use Rattle.expr.specs.Formula.{token_at, tokens, arity, known, is_formula}
 use Rattle.expr.proofs.Machine.{formula-more}
 use Rattle.expr.proofs.Testing.{Testing, test-few, test-many, test-start, test_end, test_unknown, test_low, test-next}
-use Rattle.expr_eval.specs.declared.Value.TheVariants.{Word, Refused}
 use Rattle.expr_eval.specs.Value.{value_of}
-use Rattle.expr_eval.specs.Answers.{checked, value_says}
+use Rattle.expr_eval.specs.Answers.{checked}
 use Rattle.expr_eval.proofs.Stack.{Stage, stage_start, stage_end, stage_constant, stage_variable, stage_not, stage_neg, stage_gate}
 
 module _ (nv w : ℕ) (words : List ℕ) (count : ℕ) (ops operands : List ℕ) where
   -- what is answered, by the test
-  pub check_fails : false ≡ is_formula nv (tokens count ops operands) → value_says (Refused 6) ≡ checked nv w count ops operands words
+  pub check_fails : false ≡ is_formula nv (tokens count ops operands) → refused 6 ≡ checked nv w count ops operands words
   check_fails e = λ i. outcome (refuse (not (e i)) 6 0) (value_of w words (tokens count ops operands))
 
-  pub check_answers : true ≡ is_formula nv (tokens count ops operands) → (v : ℕ) → v ≡ value_of w words (tokens count ops operands) → value_says (Word v) ≡ checked nv w count ops operands words
+  pub check_answers : true ≡ is_formula nv (tokens count ops operands) → (v : ℕ) → v ≡ value_of w words (tokens count ops operands) → answer v ≡ checked nv w count ops operands words
   check_answers e v f = λ i. outcome (refuse (not (e i)) 6 0) (f i)
 
-  pub check_few : count < 1 → value_says (Refused 6) ≡ checked nv w count ops operands words
+  pub check_few : count < 1 → refused 6 ≡ checked nv w count ops operands words
   check_few h = check_fails (test-few nv count ops operands h)
 
-  pub check_many : 64 < count → value_says (Refused 6) ≡ checked nv w count ops operands words
+  pub check_many : 64 < count → refused 6 ≡ checked nv w count ops operands words
   check_many h = check_fails (test-many nv count ops operands h)
 
   -- at place i, over the first sp places of the array
@@ -49,20 +48,20 @@ module _ (nv w : ℕ) (words : List ℕ) (count : ℕ) (ops operands : List ℕ)
   }
 
   module _ (arr : List ℕ) (sp i : ℕ) (s : Checking arr sp i) where
-    pub check_end : count ≤ i → sp ≡ 1 → value_says (Word (get_or arr 0 0)) ≡ checked nv w count ops operands words
+    pub check_end : count ≤ i → sp ≡ 1 → answer (get_or arr 0 0) ≡ checked nv w count ops operands words
     check_end h one =
         let e = sym (eq-eqb sp 1 one) ∙ test_end nv count ops operands sp i s.test h in
         check_answers e (get_or arr 0 0) (stage_end w words count ops operands arr sp i (s.value (sym e)) h)
 
-    pub check_left : count ≤ i → (sp ≡ 1 → ⊥) → value_says (Refused 6) ≡ checked nv w count ops operands words
+    pub check_left : count ≤ i → (sp ≡ 1 → ⊥) → refused 6 ≡ checked nv w count ops operands words
     check_left h other = check_fails (sym (ne_eqb sp 1 other) ∙ test_end nv count ops operands sp i s.test h)
 
     module _ (more : i < count) (t : Token) (here : token_at ops operands i ≡ t) where
       -- an operand is missing
-      pub check_low : (n : ℕ) → arity t ≡ n → sp < n → value_says (Refused 6) ≡ checked nv w count ops operands words
+      pub check_low : (n : ℕ) → arity t ≡ n → sp < n → refused 6 ≡ checked nv w count ops operands words
       check_low n a h = check_fails (test_low nv count ops operands sp i s.test more t here (omega arith))
 
-      pub check_unknown : known nv t ≡ false → value_says (Refused 6) ≡ checked nv w count ops operands words
+      pub check_unknown : known nv t ≡ false → refused 6 ≡ checked nv w count ops operands words
       check_unknown u = check_fails (test_unknown nv count ops operands sp i s.test more t here u)
 
       -- a known token over its operands: the word x at place base, over n places then

@@ -1,10 +1,8 @@
 -- What `eval` answers, with the refusals of 01's table. Assumes nothing.
 use Rattle.std.specs.Prelude.{◌||◌, List, ℕ, ltb, length}
-use Rattle.limits.specs.Refusal.{refuse, bad_count, bad_width, Outcome, refused, answer, outcome}
+use Rattle.limits.specs.Refusal.{refuse, bad_count, bad_width, Outcome, outcome}
 use Rattle.expr.specs.Formula.{tokens}
 use Rattle.expr.specs.Answers.{too_short, not_formula}
-use Rattle.expr_eval.specs.declared.Value.{Value}
-use Rattle.expr_eval.specs.declared.Value.TheVariants.{Word, Refused}
 use Rattle.expr_eval.specs.Value.{value_of}
 
 -- 01, evaluator.rs, Refusals 1, 2, 4, 6. The input words are lent too: fewer than nv of them are refused 4
@@ -24,8 +22,3 @@ evaluated nv w count ops operands words =
 abbrev pub checked : ℕ → ℕ → ℕ → List ℕ → List ℕ → List ℕ → Outcome ℕ
 checked nv w count ops operands words =
     outcome (refuse (not_formula nv count ops operands) 6 0) (value_of w words (tokens count ops operands))
-
--- 01, Expected forms: what each case of `Value` says, its refusal or the value
-abbrev pub value_says : Value → Outcome ℕ
-value_says (Word v) = answer v
-value_says (Refused number) = refused number

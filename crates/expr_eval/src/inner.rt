@@ -1,32 +1,35 @@
 // What the crates above call with what they have tested.
 ghost use Rattle.std.specs.Prelude.{◌≡◌, ◌≤◌, length};
+ghost use Rattle.limits.specs.Refusal.{says};
 ghost use Rattle.expr.specs.Formula.{tokens};
 ghost use Rattle.expr_eval.specs.Value.{value_of, Evaluable};
-ghost use Rattle.expr_eval.specs.Answers.{checked, value_says};
+ghost use Rattle.expr_eval.specs.Answers.{checked};
 
-use crate::Value;
 use expr::{MAX_TOKENS, Token};
+use limits::Refusal;
 
 // A formula of at most so many tokens goes over a stack of so many words: every stack is cleared first, and the longest formula's takes longer.
 const FEW_TOKENS: usize = 16;
 
+// A lent formula: the first `count` tokens of two arrays.
+#[derive(Clone, Copy)]
+pub struct Tokens<'a> {
+    pub count: usize,
+    pub ops: &'a [u8],
+    pub operands: &'a [u64],
+}
+
 // The value of a formula that has passed the test, from left to right over a stack. What the stack holds before and after doesn't matter.
-pub fn eval_over(
-    stack: &mut [u64],
-    w: u32,
-    count: usize,
-    ops: &[u8],
-    operands: &[u64],
-    words: &[u64],
-) -> u64
-    requires { Evaluable w count ops.now operands.now words.now × (count ≤ length stack.old) }
-    ensures { result ≡ value_of w words.now (tokens count ops.now operands.now) }
+#[tactic(auto, using(crate::proofs::Stack::stage_word, crate::proofs::Stack::stage_unary, crate::proofs::Stack::stage_binary, crate::proofs::Stack::stage_bad, crate::proofs::Stack::stage_left, crate::proofs::Stack::stage_end))]
+fn eval_over(stack: &mut [u64], w: u32, f: &Tokens<'_>, words: &[u64]) -> u64
+    requires { Evaluable w f.now.count f.now.ops.now f.now.operands.now words.now × (f.now.count ≤ length stack.old) }
+    ensures { result ≡ value_of w words.now (tokens f.now.count f.now.ops.now f.now.operands.now) }
 {
+    let ops = f.ops;
+    let operands = f.operands;
     let mut sp: usize = 0;
-    let mut i: usize = 0;
-    while i < count {
+    for i in 0..f.count {
         let t = expr::token_at(ops, operands, i);
-        i += 1;
         match t {
             Token::Constant(k) => {
                 stack[sp] = arith::reduce(k, w); // it may have more bits
@@ -56,34 +59,38 @@ pub fn eval_tokens(w: u32, count: usize, ops: &[u8], operands: &[u64], words: &[
     requires { Evaluable w count ops.now operands.now words.now }
     ensures { result ≡ value_of w words.now (tokens count ops.now operands.now) }
 {
+    let f = Tokens {
+        count,
+        ops,
+        operands,
+    };
     if count <= FEW_TOKENS {
         let mut few = [0u64; FEW_TOKENS];
-        return eval_over(&mut few, w, count, ops, operands, words);
+        return eval_over(&mut few, w, &f, words);
     }
     let mut stack = [0u64; MAX_TOKENS];
-    eval_over(&mut stack, w, count, ops, operands, words)
+    eval_over(&mut stack, w, &f, words)
 }
 
 // ---- testing and evaluating in one pass, for a single evaluation
 
 // The value of the tokens over a stack, or 6 where they are no formula over nv variables.
+#[tactic(auto, using(crate::proofs::Checking::check_end, crate::proofs::Checking::check_left))]
 fn eval_checked_over(
     stack: &mut [u64],
     nv: u32,
     w: u32,
-    count: usize,
-    ops: &[u8],
-    operands: &[u64],
+    f: &Tokens<'_>,
     words: &[u64],
-) -> Value
-    requires { (w ≤ 64) × ((nv ≤ length words.now) × ((1 ≤ count) × ((count ≤ 64) × (count ≤ length stack.old)))) }
-    ensures { value_says result ≡ checked nv w count ops.now operands.now words.now }
+) -> Result<u64, Refusal>
+    requires { (w ≤ 64) × ((nv ≤ length words.now) × ((1 ≤ f.now.count) × ((f.now.count ≤ 64) × (f.now.count ≤ length stack.old)))) }
+    ensures { says result ≡ checked nv w f.now.count f.now.ops.now f.now.operands.now words.now }
 {
+    let ops = f.ops;
+    let operands = f.operands;
     let mut sp: usize = 0;
-    let mut i: usize = 0;
-    while i < count {
+    for i in 0..f.count {
         let t = expr::token_at(ops, operands, i);
-        i += 1;
         match t {
             Token::Constant(k) => {
                 stack[sp] = arith::reduce(k, w);
@@ -91,7 +98,7 @@ fn eval_checked_over(
             }
             Token::Variable(k) => {
                 if nv as u64 <= k {
-                    return Value::Refused(6);
+                    return Err(Refusal::Formula);
                 }
                 let at = k as usize;
                 stack[sp] = arith::reduce(words[at], w);
@@ -99,7 +106,7 @@ fn eval_checked_over(
             }
             Token::Binary(g) => {
                 if sp < 2 {
-                    return Value::Refused(6);
+                    return Err(Refusal::Formula);
                 }
                 sp -= 1;
                 let a = stack[sp - 1];
@@ -108,27 +115,28 @@ fn eval_checked_over(
             }
             Token::Not => {
                 if sp < 1 {
-                    return Value::Refused(6);
+                    return Err(Refusal::Formula);
                 }
                 stack[sp - 1] = arith::mod_not(stack[sp - 1], w);
             }
             Token::Neg => {
                 if sp < 1 {
-                    return Value::Refused(6);
+                    return Err(Refusal::Formula);
                 }
                 stack[sp - 1] = arith::mod_neg(stack[sp - 1], w);
             }
-            Token::Bad => return Value::Refused(6),
+            Token::Bad => return Err(Refusal::Formula),
         }
     }
     if sp == 1 {
-        Value::Word(stack[0])
+        Ok(stack[0])
     } else {
-        Value::Refused(6)
+        Err(Refusal::Formula)
     }
 }
 
 // The same over a stack of its own, a short one for a short formula.
+#[tactic(auto, using(crate::proofs::Checking::check_few, crate::proofs::Checking::check_many))]
 pub fn eval_checked(
     nv: u32,
     w: u32,
@@ -136,20 +144,25 @@ pub fn eval_checked(
     ops: &[u8],
     operands: &[u64],
     words: &[u64],
-) -> Value
+) -> Result<u64, Refusal>
     requires { (w ≤ 64) × (nv ≤ length words.now) }
-    ensures { value_says result ≡ checked nv w count ops.now operands.now words.now }
+    ensures { says result ≡ checked nv w count ops.now operands.now words.now }
 {
     if count < 1 {
-        return Value::Refused(6);
+        return Err(Refusal::Formula);
     }
+    let f = Tokens {
+        count,
+        ops,
+        operands,
+    };
     if count <= FEW_TOKENS {
         let mut few = [0u64; FEW_TOKENS];
-        return eval_checked_over(&mut few, nv, w, count, ops, operands, words);
+        return eval_checked_over(&mut few, nv, w, &f, words);
     }
     if MAX_TOKENS < count {
-        return Value::Refused(6);
+        return Err(Refusal::Formula);
     }
     let mut stack = [0u64; MAX_TOKENS];
-    eval_checked_over(&mut stack, nv, w, count, ops, operands, words)
+    eval_checked_over(&mut stack, nv, w, &f, words)
 }

@@ -4,14 +4,10 @@
 pub mod inner;
 
 ghost use Rattle.std.specs.Prelude.{◌≡◌};
-ghost use Rattle.expr_eval.specs.Answers.{evaluated, value_says};
+ghost use Rattle.limits.specs.Refusal.{says};
+ghost use Rattle.expr_eval.specs.Answers.{evaluated};
 
-// A formula's value, or the refusal.
-#[derive(Clone, Copy)]
-pub enum Value {
-    Word(u64),
-    Refused(u32),
-}
+use limits::Refusal;
 
 // The value of a formula at the given words, modulo 2^w. Refuses 1, 2, 4, 6.
 pub fn eval(
@@ -21,24 +17,23 @@ pub fn eval(
     ops: &[u8],
     operands: &[u64],
     words: &[u64],
-) -> Value
-    ensures { value_says result ≡ evaluated nv w token_count ops.now operands.now words.now }
+) -> Result<u64, Refusal>
+    ensures { says result ≡ evaluated nv w token_count ops.now operands.now words.now }
 {
     if limits::inner::bad_count(nv) {
-        return Value::Refused(1);
+        return Err(Refusal::VariableCount);
     }
     if limits::inner::bad_width(w) {
-        return Value::Refused(2);
+        return Err(Refusal::Width);
     }
     if expr::inner::too_short(token_count, ops, operands) {
-        return Value::Refused(4);
+        return Err(Refusal::ShortArray);
     }
     if words.len() < nv as usize {
-        return Value::Refused(4);
+        return Err(Refusal::ShortArray);
     }
-    if expr::is_formula(nv, token_count, ops, operands) {
-        Value::Word(inner::eval_tokens(w, token_count, ops, operands, words))
-    } else {
-        Value::Refused(6)
+    if !expr::is_formula(nv, token_count, ops, operands) {
+        return Err(Refusal::Formula);
     }
+    Ok(inner::eval_tokens(w, token_count, ops, operands, words))
 }

@@ -141,11 +141,11 @@ module _ (w nv count : ℕ) (ops operands records : List ℕ) where
   }
 
   module _ (stack : List ℕ) (sp i : ℕ) (s : RowStage w nv count ops operands records stack sp i) where
-    pub rows-low : (sp ≤ i) × (count ≤ 64)
-    rows-low = let f = s.lanes 0 (omega arith) in (f.room, f.most)
+    pub rows_low : (sp ≤ i) × (count ≤ 64)
+    rows_low = let f = s.lanes 0 (omega arith) in (f.room, f.most)
 
-    pub rows-there : i < count → (t : Token) → token_at ops operands i ≡ t → arity t ≤ sp
-    rows-there more t here = token_there w (part_at nv records 0) count ops operands (lane_of 0 stack) sp i (s.lanes 0 (omega arith)) more t here
+    pub rows_there : i < count → (t : Token) → token_at ops operands i ≡ t → arity t ≤ sp
+    rows_there more t here = token_there w (part_at nv records 0) count ops operands (lane_of 0 stack) sp i (s.lanes 0 (omega arith)) more t here
 
     pub rows-may : length records ≡ nv * 16 → i < count → (t : Token) → token_at ops operands i ≡ t → known nv t ≡ true
     rows-may long more t here =
@@ -156,15 +156,15 @@ module _ (w nv count : ℕ) (ops operands records : List ℕ) where
         → ((j : ℕ) → j < 16 → get_or row j 0 ≡ leaves (value_alg w (part_at nv records j)) t (get_or stack (16 * (sp - 2) + j) 0) (get_or stack (16 * (sp - 1) + j) 0))
         → RowStage w nv count ops operands records (put_part 16 stack base row) (base + 1) (i + 1)
     rows_on more t here base row e wide left = record {
-      room = length-put 16 stack base row (omega (arith, s.room, rows-low.0, rows-low.1)) wide ∙ s.room;
+      room = length-put 16 stack base row (omega (arith, s.room, rows_low.0, rows_low.1)) wide ∙ s.room;
       lanes = λ j h.
           subst (λ (l : List ℕ). Stage w (part_at nv records j) count ops operands l (base + 1) (i + 1))
-          (sym (lane-put j stack base row s.room wide (omega (arith, rows-low.0, rows-low.1)) h))
+          (sym (lane-put j stack base row s.room wide (omega (arith, rows_low.0, rows_low.1)) h))
           (token_on w (part_at nv records j) count ops operands (lane_of j stack) sp i (s.lanes j h) more t here base (get_or row j 0) e
           (left j h
           ∙ ap₂ (λ (a b : ℕ). leaves (value_alg w (part_at nv records j)) t a b)
-          (sym (lane-at j stack (sp - 2) (omega (arith, rows-low.0, rows-low.1))))
-          (sym (lane-at j stack (sp - 1) (omega (arith, rows-low.0, rows-low.1))))));
+          (sym (lane-at j stack (sp - 2) (omega (arith, rows_low.0, rows_low.1))))
+          (sym (lane-at j stack (sp - 1) (omega (arith, rows_low.0, rows_low.1))))));
     }
 
     pub rows_end : count ≤ i → (j : ℕ) → j < 16 → get_or (part_at 16 stack 0) j 0 ≡ value_of w (part_at nv records j) (tokens count ops operands)

@@ -6,6 +6,7 @@ ghost use Rattle.expr_eval.specs.Value.{value_alg, value_of};
 ghost use Rattle.expr_rows.specs.Rows.{leaves, Takes, RowsReady};
 
 use expr::Token;
+use expr_eval::inner::Tokens;
 use row_gates::{Gate, ROW_WORDS};
 
 // Word i of each of sixteen records, modulo 2^w.
@@ -14,10 +15,8 @@ fn column(records: &[u64], nv: usize, i: usize, w: u32) -> [u64; 16]
     ensures { (j : ℕ) → j < 16 → get_or result j 0 ≡ get_or records.now (nv * j + i) 0 % 2 ^ w }
 {
     let mut row = [0u64; ROW_WORDS];
-    let mut j: usize = 0;
-    while j < ROW_WORDS {
+    for j in 0..ROW_WORDS {
         row[j] = arith::reduce(records[nv * j + i], w);
-        j += 1;
     }
     row
 }
@@ -52,27 +51,20 @@ fn token_row(stack: &[u64], sp: usize, t: Token, w: u32, nv: usize, records: &[u
 }
 
 // The values, at sixteen records of nv words, of a formula that has passed the test. What the stack holds before and after doesn't matter.
-pub fn eval_row(
-    stack: &mut [u64],
-    w: u32,
-    nv: usize,
-    count: usize,
-    ops: &[u8],
-    operands: &[u64],
-    records: &[u64],
-) -> [u64; 16]
-    requires { RowsReady w nv count ops.now operands.now records.now stack.old }
-    ensures { (j : ℕ) → j < 16 → get_or result j 0 ≡ value_of w (part_at nv records.now j) (tokens count ops.now operands.now) }
+#[tactic(auto, using(crate::proofs::Lanes::rows_low))]
+pub fn eval_row(stack: &mut [u64], w: u32, nv: usize, f: &Tokens<'_>, records: &[u64]) -> [u64; 16]
+    requires { RowsReady w nv f.now.count f.now.ops.now f.now.operands.now records.now stack.old }
+    ensures { (j : ℕ) → j < 16 → get_or result j 0 ≡ value_of w (part_at nv records.now j) (tokens f.now.count f.now.ops.now f.now.operands.now) }
 {
+    let ops = f.ops;
+    let operands = f.operands;
     let mut sp: usize = 0;
-    let mut i: usize = 0;
-    while i < count {
+    for i in 0..f.count {
         let t = expr::token_at(ops, operands, i);
         let row = token_row(stack, sp, t, w, nv, records);
         let base = sp - expr::takes(t);
         row_lent::inner::put_row(stack, base, row);
         sp = base + 1;
-        i += 1;
     }
     row_lent::inner::load_row(stack, 0)
 }

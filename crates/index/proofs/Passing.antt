@@ -1,6 +1,5 @@
 -- Laws of the refusals of a build: what is known where none applies. Assumes nothing.
-use mathlib.Core.Path.{◌≡◌, sym, ◌∙◌}
-use mathlib.Core.Bool.{Bool, false, ◌||◌}
+use mathlib.Core.Path.{◌≡◌}
 use Prim.Native.Nat.{ℕ, ◌+◌, ◌*◌, ◌/◌, ◌≤◌}
 use native.Mathlib.Omega.{arith}
 use borrow.Author.Tests.{ltb-false}
@@ -8,11 +7,7 @@ use lib.Dec.{ltb}
 use Rattle.limits.specs.Limits.{atoms_max, pairs_max, too_many_atoms}
 use Rattle.limits.specs.Refusal.{bad_width}
 use Rattle.limits.proofs.Refusals.{within, passed, neither, enough}
-use Rattle.index.specs.Build.{too_short, refusal_of}
-
--- the last of five conditions, where those before it do not apply
-pub or_last : {a b c d : Bool} (e : Bool) → a ≡ false → b ≡ false → c ≡ false → d ≡ false → e ≡ (a || (b || (c || (d || e))))
-or_last e p q r s = rw (p, q, r, s)
+use Rattle.index.specs.Build.{too_short, build_refusal}
 
 -- what is known where nothing is refused
 pub record Passed (w count L rows pairs pairRows order work : ℕ) : Type 0 where
@@ -25,9 +20,9 @@ pub record Passed (w count L rows pairs pairRows order work : ℕ) : Type 0 wher
   pub order-fit : L ≤ order
   pub area : 4 * (L + atoms_max) ≤ work
 
-pub none-refused : (w count L rows pairs pairRows order work n : ℕ) → n ≡ refusal_of w count L rows pairs pairRows order work → n ≡ 0 → Passed w count L rows pairs pairRows order work
-none-refused w count L rows pairs pairRows order work n is e =
-    let wide = passed (bad_width w) 2 _ (omega arith) (sym is ∙ e) in
+pub none-refused : (w count L rows pairs pairRows order work : ℕ) → build_refusal w count L rows pairs pairRows order work ≡ 0 → Passed w count L rows pairs pairRows order work
+none-refused w count L rows pairs pairRows order work none =
+    let wide = passed (bad_width w) 2 _ (omega arith) none in
     let most = passed (ltb pairs_max L) 3 _ (omega arith) wide.1 in
     let short = passed (too_short count L rows pairs pairRows order work) 4 _ (omega arith) most.1 in
     let few = passed (too_many_atoms count) 7 0 (omega arith) short.1 in

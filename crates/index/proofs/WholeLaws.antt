@@ -7,17 +7,19 @@ use native.Mathlib.Omega.{arith}
 use lib.ListN.{length, get_or, take, drop, take-append-drop}
 use lib.Seq.{get_or-take}
 use Rattle.arrays.specs.Parts.{encode}
-use Rattle.limits.specs.Refusal.{refused, answer}
-use Rattle.limits.proofs.Refusals.{unless_refused_lem, unless_not}
+use Rattle.std.specs.Prelude.{Ok, Err}
+use Rattle.limits.specs.Refusal.{answer, number_of}
+use Rattle.limits.specs.declared.Refusal.{Refusal}
+use Rattle.limits.proofs.Answers.{says_err, says_ok, unless_err, unless_ok}
 use Rattle.index_order.specs.Order.{first_word, order_of}
 use Rattle.index_order.proofs.OrderLaws.{order_same}
 use Rattle.index_maps.specs.declared.inner.Job.{Job}
 use Rattle.index_trial.specs.declared.inner.Tally.{Tally}
-use Rattle.index.specs.declared.IndexAnswer.TheVariants.{Built, Refused}
+use Rattle.index.specs.declared.BuiltIndex.{BuiltIndex}
 use Rattle.index_spec.specs.Index.{Pair, all_gates, rows_of, rows_in, trials_of}
 use Rattle.index_spec.specs.Trials.{try_all, no_pairs, tried_of}
 use Rattle.index_spec.specs.Encoding.{pair_part, pair_row}
-use Rattle.index.specs.Build.{Arrays, Summary, index_refusal, lent_index, IndexBuilt}
+use Rattle.index.specs.Build.{Arrays, index_refusal, lent_index, IndexBuilt}
 use Rattle.index_maps.specs.Area.{head_room, Prepared}
 use Rattle.index_trial.specs.Steps.{Ready, Is, Ran}
 use Rattle.index.specs.Steps.{Fits, Made}
@@ -61,9 +63,10 @@ module _ (w count limit bits : ℕ) (rows pairs listed order work' pairs' listed
       (ap (λ (k : ℕ). try_all w limit (rows_of count rows) no_pairs (trials_of all_gates k)) (sym (length-rows_of count rows)) ∙ by_trials w limit all_gates (rows_of count rows))
       (ran.index pairs listed no_pairs (is-start pairs listed))
 
-  pub made-is : Ran (job_of w count limit bits) rows pairs listed 0 work' pairs' listed' r (trials_of all_gates count) → order' ≡ order_of r.pairs listed' ++ drop r.pairs order
-      → Made w count limit rows pairs listed order pairs' listed' order' r
-  made-is ran sorted = record {
+  -- what the two arrays hold at the end is what the trials left there
+  pub made-is : {pairs₁ listed₁ : List ℕ} → pairs₁ ≡ pairs' → listed₁ ≡ listed' → Ran (job_of w count limit bits) rows pairs listed 0 work' pairs₁ listed₁ r (trials_of all_gates count)
+      → order' ≡ order_of r.pairs listed' ++ drop r.pairs order → Made w count limit rows pairs listed order pairs' listed' order' r
+  made-is {pairs₁} ep el ran sorted = record {
     within = ran.ready.within;
     count-is = is.count;
     mark-is = is.mark;
@@ -74,7 +77,9 @@ module _ (w count limit bits : ℕ) (rows pairs listed order work' pairs' listed
   }
     where
       is : Is pairs listed pairs' listed' r.pairs r.cut (lent_index w count rows limit)
-      is = is_whole ran
+      is = is_whole
+          (subst (λ (z : List ℕ). Ran (job_of w count limit bits) rows pairs listed 0 work' z listed' r (trials_of all_gates count)) ep
+          (subst (λ (z : List ℕ). Ran (job_of w count limit bits) rows pairs listed 0 work' pairs₁ z r (trials_of all_gates count)) el ran))
 
       ps : List Pair
       ps = (lent_index w count rows limit).pairs
@@ -90,31 +95,26 @@ module _ (w count : ℕ) (rows : List ℕ) (L : ℕ) (old : Arrays) where
   abbrev number : ℕ
   number = index_refusal w count rows L old
 
-  pub refused-built : (n : ℕ) → n ≡ number → 0 < n → IndexBuilt w count rows L old old (Refused n)
-  refused-built n e h =
-      let pos : 0 < number = omega arith in
-      record {
-        says = ap (λ (k : ℕ). refused k) e ∙ sym (unless_refused_lem number _ _ pos);
-        pairs = sym (unless_refused_lem number _ _ pos);
-        rows_are = sym (unless_refused_lem number _ _ pos);
-        order = sym (unless_refused_lem number _ _ pos);
-        work-kept = λ _. refl;
-      }
+  pub refused-built : (r : Refusal) → number_of r ≡ number → IndexBuilt w count rows L old old (Err r)
+  refused-built r e = record {
+    says = says_err r number _ e;
+    pairs = sym (unless_err r number _ _ e);
+    rows_are = sym (unless_err r number _ _ e);
+    order = sym (unless_err r number _ _ e);
+    work-kept = λ _. refl;
+  }
 
-  pub made-built : (new : Arrays) (r : Tally) (n : ℕ) → n ≡ number → n ≡ 0 → Made w count L rows old.pairs old.rows old.order new.pairs new.rows new.order r
-      → IndexBuilt w count rows L old new (Built r.pairs r.cut)
-  made-built new r n is zero' made = record {
-    says = ap₂ (λ (n : ℕ) (b : Bool). answer (summary n b)) made.count-is made.mark-is ∙ sym (unless_not number _ _ none);
-    pairs = made.pairs-are ∙ sym (unless_not number _ _ none);
-    rows_are = made.rows_are ∙ sym (unless_not number _ _ none);
-    order = made.order_is ∙ sym (unless_not number _ _ none);
+  pub made-built : (new : Arrays) (r : Tally) → 0 ≡ number → Made w count L rows old.pairs old.rows old.order new.pairs new.rows new.order r
+      → IndexBuilt w count rows L old new (Ok (record { pairs = r.pairs; cut = r.cut }))
+  made-built new r none made = record {
+    says = ap₂ (λ (n : ℕ) (b : Bool). answer (summary n b)) made.count-is made.mark-is ∙ says_ok number _ none;
+    pairs = made.pairs-are ∙ sym (unless_ok number _ _ none);
+    rows_are = made.rows_are ∙ sym (unless_ok number _ _ none);
+    order = made.order_is ∙ sym (unless_ok number _ _ none);
     work-kept = λ h. absurd (omega arith);
   }
     where
-      none : number ≡ 0
-      none = sym is ∙ zero'
-
-      summary : ℕ → Bool → Summary
+      summary : ℕ → Bool → BuiltIndex
       summary n b = record { pairs = n; cut = b }
 
 -- so a build that is not refused is called with what it needs

@@ -1,71 +1,65 @@
 // What the index build is made of: its refusals, and the build into arrays that are tested.
 ghost use Rattle.std.specs.Prelude.{◌≡◌, ◌≤◌};
 ghost use Rattle.limits.specs.Limits.{pairs_max};
-ghost use Rattle.index.specs.Build.{too_short, refusal_of};
-ghost use Rattle.index.specs.Steps.{Fits, Made};
+ghost use Rattle.limits.specs.Refusal.{refusal_of};
+ghost use Rattle.index.specs.Build.{too_short};
+ghost use Rattle.index.specs.Steps.{Fits, Made, asked_refusal};
 
 use index_maps::inner::Job;
 use index_spec::PAIR_WORDS;
-use index_trial::inner::Tally;
-use limits::{ATOMS_MAX, PAIRS_MAX};
+use index_trial::inner::{Build, Tally};
+use limits::{ATOMS_MAX, PAIRS_MAX, Refusal};
 
 // The words of the work area for each pair and atom.
 const WORK_WORDS: usize = 4;
 
-// Whether an array is too short, by the arrays' lengths: refusal 4.
-fn too_short(
-    atom_count: usize,
-    limit: usize,
-    atom_rows: usize,
-    pairs: usize,
-    pair_rows: usize,
-    order: usize,
-    work: usize,
-) -> bool
-    requires { limit ≤ pairs_max }
-    ensures { result ≡ too_short atom_count limit atom_rows pairs pair_rows order work }
-{
-    if atom_rows / row_gates::ROW_WORDS < atom_count {
-        return true;
-    }
-    if pairs / PAIR_WORDS < limit {
-        return true;
-    }
-    if pair_rows / row_gates::ROW_WORDS < limit {
-        return true;
-    }
-    if order < limit {
-        return true;
-    }
-    work / WORK_WORDS < limit + ATOMS_MAX
+// What is asked of a build: the width, how many atoms and at most how many pairs.
+#[derive(Clone, Copy)]
+pub struct Asked {
+    pub w: u32,
+    pub count: usize,
+    pub limit: usize,
 }
 
-// The refusal of a build, by the arrays' lengths; 0 for none.
-pub fn refusal_of(
-    w: u32,
-    atom_count: usize,
-    limit: usize,
-    atom_rows: usize,
-    pairs: usize,
-    pair_rows: usize,
-    order: usize,
-    work: usize,
-) -> u32
-    ensures { result ≡ refusal_of w atom_count limit atom_rows pairs pair_rows order work }
+// How long the lent arrays are.
+#[derive(Clone, Copy)]
+pub struct Lengths {
+    pub rows: usize,
+    pub pairs: usize,
+    pub pair_rows: usize,
+    pub order: usize,
+    pub work: usize,
+}
+
+// Whether an array is too short: refusal 4.
+fn too_short(count: usize, limit: usize, lengths: Lengths) -> bool
+    requires { limit ≤ pairs_max }
+    ensures { result ≡ too_short count limit lengths.rows lengths.pairs lengths.pair_rows lengths.order lengths.work }
 {
-    if limits::inner::bad_width(w) {
-        return 2;
+    lengths.rows / row_gates::ROW_WORDS < count
+        || lengths.pairs / PAIR_WORDS < limit
+        || lengths.pair_rows / row_gates::ROW_WORDS < limit
+        || lengths.order < limit
+        || lengths.work / WORK_WORDS < limit + ATOMS_MAX
+}
+
+// Whether a build is refused.
+pub fn check(asked: Asked, lengths: Lengths) -> Result<(), Refusal>
+    ensures { refusal_of result ≡ asked_refusal asked lengths }
+{
+    if limits::inner::bad_width(asked.w) {
+        return Err(Refusal::Width);
     }
-    if PAIRS_MAX < limit {
-        return 3;
+    if PAIRS_MAX < asked.limit {
+        return Err(Refusal::Limit);
     }
-    if too_short(atom_count, limit, atom_rows, pairs, pair_rows, order, work) {
-        return 4;
+    if too_short(asked.count, asked.limit, lengths) {
+        return Err(Refusal::ShortArray);
     }
-    if ATOMS_MAX < atom_count {
-        return 7;
+    if ATOMS_MAX < asked.count {
+        return Err(Refusal::Claim);
     }
-    0
+    Ok(())
 }
 
 // The index, its rows and its order list, in arrays that are long enough.
@@ -75,13 +69,12 @@ pub fn build(
     listed: &mut [u64],
     order: &mut [u32],
     atoms: &[u64],
-    w: u32,
-    count: usize,
-    limit: usize,
+    asked: Asked,
 ) -> Tally
-    requires { Fits w count limit atoms.now work.old pairs.old listed.old order.old }
-    ensures { Made w count limit atoms.now pairs.old listed.old order.old pairs.new listed.new order.new result }
+    requires { Fits asked.w asked.count asked.limit atoms.now work.old pairs.old listed.old order.old }
+    ensures { Made asked.w asked.count asked.limit atoms.now pairs.old listed.old order.old pairs.new listed.new order.new result }
 {
+    let Asked { w, count, limit } = asked;
     let bits = index_maps::inner::map_bits(limit, count);
     let job = Job {
         w,
@@ -90,8 +83,14 @@ pub fn build(
         bits,
     };
     index_maps::inner::prepare(work, atoms, job);
-    let tally = index_loops::inner::try_gates(work, pairs, listed, atoms, job);
-    let n = tally.pairs;
-    index_sort::inner::sort_order(order, work, listed, n);
+    let mut build = Build {
+        job,
+        work: &mut *work,
+        pairs,
+        listed: &mut *listed,
+        atoms,
+    };
+    let tally = index_loops::inner::try_gates(&mut build);
+    index_sort::inner::sort_order(order, work, listed, tally.pairs);
     tally
 }

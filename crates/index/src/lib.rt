@@ -5,15 +5,18 @@ pub mod inner;
 
 ghost use Rattle.index.specs.Build.{IndexBuilt, arrays_of};
 
-// How many pairs are listed, and whether the build was ended by a new row; or the refusal.
+use inner::{Asked, Lengths};
+use limits::Refusal;
+
+// How many pairs are listed, and whether the build was ended by a new row.
 #[derive(Clone, Copy)]
-pub enum IndexAnswer {
-    Built { pairs: u32, cut: bool },
-    Refused(u32),
+pub struct BuiltIndex {
+    pub pairs: u32,
+    pub cut: bool,
 }
 
 // Lists the pairs of the first `atom_count` lent rows, at most `limit`, with their rows and the order list. What `work` holds doesn't matter.
-// Refuses 2, 3, 4, 7.
+// Refuses 2, 3, 4, 7. Its parameters are those of the call of the C interface, one by one.
 pub fn build_index(
     w: u32,
     atom_count: usize,
@@ -23,27 +26,25 @@ pub fn build_index(
     pair_rows: &mut [u64],
     order: &mut [u32],
     work: &mut [u32],
-) -> IndexAnswer
+) -> Result<BuiltIndex, Refusal>
     ensures { IndexBuilt w atom_count atom_rows.now limit (arrays_of pairs.old pair_rows.old order.old work.old) (arrays_of pairs.new pair_rows.new order.new work.new) result }
 {
-    let refusal = inner::refusal_of(
+    let asked = Asked {
         w,
-        atom_count,
+        count: atom_count,
         limit,
-        atom_rows.len(),
-        pairs.len(),
-        pair_rows.len(),
-        order.len(),
-        work.len(),
-    );
-    if refusal != 0 {
-        return IndexAnswer::Refused(refusal);
-    }
-    let made = inner::build(
-        work, pairs, pair_rows, order, atom_rows, w, atom_count, limit,
-    );
-    IndexAnswer::Built {
+    };
+    let lengths = Lengths {
+        rows: atom_rows.len(),
+        pairs: pairs.len(),
+        pair_rows: pair_rows.len(),
+        order: order.len(),
+        work: work.len(),
+    };
+    inner::check(asked, lengths)?;
+    let made = inner::build(work, pairs, pair_rows, order, atom_rows, asked);
+    Ok(BuiltIndex {
         pairs: made.pairs as u32,
         cut: made.cut,
-    }
+    })
 }

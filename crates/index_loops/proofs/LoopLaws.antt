@@ -3,12 +3,12 @@ use mathlib.Core.Path.{◌≡◌, sym, ◌∙◌, subst}
 use mathlib.Core.Bool.{Bool, true, false}
 use mathlib.Core.List.{List, [], ◌++◌}
 use Prim.Native.Nat.{ℕ}
-use lib.ListN.{length}
 use Rattle.index_maps.specs.declared.inner.Job.{Job}
 use Rattle.index_trial.specs.declared.inner.Tally.{Tally}
+use Rattle.index_trial.specs.declared.inner.Build.{Build}
 use Rattle.index_spec.specs.Index.{Trial, rows_of}
 use Rattle.index_spec.specs.Trials.{try_all}
-use Rattle.index_trial.specs.Steps.{Ready, Is, Ran}
+use Rattle.index_trial.specs.Steps.{Ready, Is, Ran, IsReady, Tried, SameLent}
 use Rattle.index_spec.proofs.IndexLaws.{stays_cut, try_append}
 use Rattle.index_trial.proofs.StepLaws.{tallied}
 
@@ -53,13 +53,7 @@ module _ (job : Job) (rows pairs pairRows : List ℕ) (n : ℕ) where
     index = λ old_pairs oldRows ix is. subst (λ (b : Bool). Is old_pairs oldRows pairs' pairRows' r.pairs b (try_all job.w job.limit (rows_of job.count rows) ix ts)) e (ran.index old_pairs oldRows ix is);
   }
 
--- ---- a loop over trials: it keeps the arrays' lengths, and has run the trials ts
-pub record Loop (job : Job) (rows work₀ pairs₀ pairRows₀ : List ℕ) (n : ℕ) (work pairs pairRows : List ℕ) (made : ℕ) (ts : List Trial) : Type 0 where
-  pub work-long : length work ≡ length work₀
-  pub pairs-long : length pairs ≡ length pairs₀
-  pub rows_long : length pairRows ≡ length pairRows₀
-  pub ran : Ran job rows pairs₀ pairRows₀ n work pairs pairRows (tallied made false) ts
-
+-- ---- a loop over trials
 module _ {job : Job} {rows pairs₀ pairRows₀ : List ℕ} {n : ℕ} {work₁ pairs₁ rows₁ work₂ pairs₂ rows₂ : List ℕ} {m : ℕ} {r : Tally} where
   -- a step that was not cut, and one that was: what is left doesn't matter
   pub step_on : (ts us : List Trial) {next : List Trial} → Ran job rows pairs₀ pairRows₀ n work₁ pairs₁ rows₁ (tallied m false) ts → Ran job rows pairs₁ rows₁ m work₂ pairs₂ rows₂ r us
@@ -75,3 +69,25 @@ module _ {job : Job} {rows pairs₀ pairRows₀ : List ℕ} {n : ℕ} {work₁ p
       renamed e
       (ran-ended job rows pairs₀ pairRows₀ n work₂ pairs₂ rows₂ r (ts ++ us) more cut
       (ran_then job rows pairs₀ pairRows₀ n work₁ pairs₁ rows₁ work₂ pairs₂ rows₂ m r ts us first then))
+
+-- ---- over a build: what was tried since is of the same build
+module _ {old mid : Build} (same : SameLent old mid) where
+  pub moved : {n : ℕ} {r : Tally} (new : Build) (ts : ℕ → List Trial) → Tried mid new n r (ts mid.job.count)
+      → Ran old.job old.atoms.now mid.pairs.now mid.listed.now n new.work.now new.pairs.now new.listed.now r (ts old.job.count)
+  moved {n} {r} new ts t =
+      subst (λ (j : Job). Ran j old.atoms.now mid.pairs.now mid.listed.now n new.work.now new.pairs.now new.listed.now r (ts j.count)) same.job
+      (subst (λ (a : List ℕ). Ran mid.job a mid.pairs.now mid.listed.now n new.work.now new.pairs.now new.listed.now r (ts mid.job.count)) same.atoms t)
+
+  pub ready_on : {n m : ℕ} {ts : List Trial} → Tried old mid n (tallied m false) ts → IsReady mid m
+  ready_on {n} {m} t =
+      subst (λ (j : Job). Ready j mid.atoms.now mid.work.now mid.pairs.now mid.listed.now m) (sym same.job)
+      (subst (λ (a : List ℕ). Ready old.job a mid.work.now mid.pairs.now mid.listed.now m) (sym same.atoms) t.ready)
+
+  pub same_on : {new : Build} → SameLent mid new → SameLent old new
+  same_on s = record {
+    job = s.job ∙ same.job;
+    work = s.work ∙ same.work;
+    pairs = s.pairs ∙ same.pairs;
+    listed = s.listed ∙ same.listed;
+    atoms = s.atoms ∙ same.atoms;
+  }

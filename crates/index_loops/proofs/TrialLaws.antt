@@ -1,12 +1,11 @@
 -- Laws of the list of trials, as the three loops pass through it. Assumes nothing.
 use mathlib.Core.Path.{◌≡◌, refl, sym, ap, ◌∙◌}
 use mathlib.Core.List.{List, [], ◌∷◌, ◌++◌, map, flat_map, map-append, append-nil}
-use Prim.Native.Nat.{ℕ, zero, suc, ◌+◌, ◌-◌, ◌≤◌, ◌<◌}
+use Prim.Native.Nat.{ℕ, ◌+◌, ◌-◌, ◌≤◌, ◌<◌}
 use native.Mathlib.Numerals.{add-one}
 use native.Mathlib.Omega.{arith}
 use lib.ListN.{get_or, take, drop, take-append-drop}
 use lib.Seq.{take-suc}
-use Rattle.row_gates.specs.Gates.{gate_at}
 use Rattle.row_gates.specs.declared.Gate.{Gate}
 use Rattle.row_gates.specs.declared.Gate.TheVariants.{And}
 use Rattle.arrays.specs.Lists.{count_up}
@@ -91,20 +90,10 @@ pub gates-none : (n : ℕ) → gates_up_to n 0 ≡ []
 unfolding gates_up_to flat_map
 gates-none n = refl
 
-gate-listed : (k : ℕ) → k < 5 → gate_at k ≡ get_or all_gates k And
-unfolding all_gates
-gate-listed zero h = refl
-gate-listed (suc zero) h = refl
-gate-listed (suc (suc zero)) h = refl
-gate-listed (suc (suc (suc zero))) h = refl
-gate-listed (suc (suc (suc (suc zero)))) h = refl
-gate-listed (suc (suc (suc (suc (suc k))))) h = absurd (omega arith)
-
-pub gates-more : (n k : ℕ) → k < 5 → gates_up_to n k ++ trials_of_gate n (gate_at k) ≡ gates_up_to n (k + 1)
+pub gates-more : (n k : ℕ) → k < 5 → gates_up_to n k ++ trials_of_gate n (get_or all_gates k And) ≡ gates_up_to n (k + 1)
 unfolding gates_up_to flat_map all_gates
 gates-more n k h =
-    ap (λ (g : Gate). gates_up_to n k ++ trials_of_gate n g) (gate-listed k h)
-    ∙ ap (λ (l : List Trial). gates_up_to n k ++ l) (sym (append-nil (trials_of_gate n (get_or all_gates k And))))
+    ap (λ (l : List Trial). gates_up_to n k ++ l) (sym (append-nil (trials_of_gate n (get_or all_gates k And))))
     ∙ sym (flat_append (trials_of_gate n) (take k all_gates) (get_or all_gates k And ∷ []))
     ∙ ap (flat_map (trials_of_gate n)) (sym (ap (λ (j : ℕ). take j all_gates) (add-one k) ∙ take-suc all_gates k And h))
 

@@ -1,15 +1,11 @@
 // The trials of an index build: gates in number order, b ascending, c from b upward.
 ghost use Rattle.std.specs.Prelude.{◌≡◌, ◌<◌};
 ghost use Rattle.index_spec.specs.Index.{all_gates, first_c, trials_with, trials_of_gate, trials_of};
-ghost use Rattle.index_trial.specs.Steps.{Ready, Ran};
+ghost use Rattle.index_trial.specs.Steps.{IsReady, Tried, SameLent};
 
-use index_maps::inner::Job;
-use index_trial::inner::Tally;
-use row_gates::Gate;
+use index_trial::inner::{Build, Tally, Trial};
+use row_gates::{GATES, Gate};
 use row_lent::AtomSlot;
-
-// How many gates there are.
-const GATES: u32 = 5;
 
 // The first c that a gate tries with b: And and Or of an atom with itself are passed over.
 fn first_c(g: Gate, b: usize) -> usize
@@ -17,35 +13,29 @@ fn first_c(g: Gate, b: usize) -> usize
     ensures { result ≡ first_c g b }
 {
     match g {
-        Gate::And => b + 1,
-        Gate::Or => b + 1,
-        Gate::Xor => b,
-        Gate::Add => b,
-        Gate::Mul => b,
+        Gate::And | Gate::Or => b + 1,
+        Gate::Xor | Gate::Add | Gate::Mul => b,
     }
 }
 
 // The trials of a gate with atom b: c ascending.
-fn try_with(
-    work: &mut [u32],
-    pairs: &mut [u32],
-    listed: &mut [u64],
-    atoms: &[u64],
-    job: Job,
-    n: usize,
-    g: Gate,
-    b: AtomSlot,
-) -> Tally
-    requires { Ready job atoms.now work.old pairs.old listed.old n × (b.0 < job.count) }
-    ensures { Ran job atoms.now pairs.old listed.old n work.new pairs.new listed.new result (trials_with job.count g b.0) }
+fn try_with(build: &mut Build<'_>, n: usize, g: Gate, b: AtomSlot) -> Tally
+    requires { IsReady build.old n × (b.0 < build.old.job.count) }
+    ensures tried { Tried build.old build.new n result (trials_with build.old.job.count g b.0) }
+    ensures same { SameLent build.old build.new }
 {
-    let count = job.count;
+    let count = build.job.count;
     let mut made = n;
-    let mut c = first_c(g, b.0 as usize);
-    while c < count {
+    for c in first_c(g, b.0 as usize)..count {
         let slot = AtomSlot(c as u32);
-        let t = index_trial::inner::try_pair(work, pairs, listed, atoms, job, made, g, b, slot);
-        c += 1;
+        let t = build.try_pair(
+            made,
+            Trial {
+                gate: g,
+                b,
+                c: slot,
+            },
+        );
         if t.cut {
             return t;
         }
@@ -58,25 +48,16 @@ fn try_with(
 }
 
 // The trials of a gate: b ascending.
-fn try_gate(
-    work: &mut [u32],
-    pairs: &mut [u32],
-    listed: &mut [u64],
-    atoms: &[u64],
-    job: Job,
-    n: usize,
-    g: Gate,
-) -> Tally
-    requires { Ready job atoms.now work.old pairs.old listed.old n }
-    ensures { Ran job atoms.now pairs.old listed.old n work.new pairs.new listed.new result (trials_of_gate job.count g) }
+fn try_gate(build: &mut Build<'_>, n: usize, g: Gate) -> Tally
+    requires { IsReady build.old n }
+    ensures tried { Tried build.old build.new n result (trials_of_gate build.old.job.count g) }
+    ensures same { SameLent build.old build.new }
 {
-    let count = job.count;
+    let count = build.job.count;
     let mut made = n;
-    let mut b: usize = 0;
-    while b < count {
+    for b in 0..count {
         let slot = AtomSlot(b as u32);
-        let t = try_with(work, pairs, listed, atoms, job, made, g, slot);
-        b += 1;
+        let t = try_with(build, made, g, slot);
         if t.cut {
             return t;
         }
@@ -89,22 +70,14 @@ fn try_gate(
 }
 
 // All trials: gates in number order.
-pub fn try_gates(
-    work: &mut [u32],
-    pairs: &mut [u32],
-    listed: &mut [u64],
-    atoms: &[u64],
-    job: Job,
-) -> Tally
-    requires { Ready job atoms.now work.old pairs.old listed.old 0 }
-    ensures { Ran job atoms.now pairs.old listed.old 0 work.new pairs.new listed.new result (trials_of all_gates job.count) }
+pub fn try_gates(build: &mut Build<'_>) -> Tally
+    requires { IsReady build.old 0 }
+    ensures tried { Tried build.old build.new 0 result (trials_of all_gates build.old.job.count) }
+    ensures same { SameLent build.old build.new }
 {
     let mut made: usize = 0;
-    let mut k: u32 = 0;
-    while k < GATES {
-        let g = row_gates::inner::gate_at(k);
-        let t = try_gate(work, pairs, listed, atoms, job, made, g);
-        k += 1;
+    for g in GATES {
+        let t = try_gate(build, made, g);
         if t.cut {
             return t;
         }

@@ -1,9 +1,7 @@
 -- Laws of the work area's two parts, when one of them was lent and is back. Assumes nothing.
 use mathlib.Core.Path.{◌≡◌, sym, ap, ◌∙◌, subst}
 use mathlib.Core.List.{List, ◌++◌, append-nil}
-use Prim.Native.Nat.{ℕ, ◌+◌, ◌-◌, ◌*◌, ◌^◌, ◌≤◌, ◌<◌}
-use native.Mathlib.Nat.{two-pow-succ}
-use native.Mathlib.Numerals.{add-one}
+use Prim.Native.Nat.{ℕ, ◌-◌, ◌^◌, ◌≤◌, ◌<◌}
 use native.Mathlib.Omega.{arith}
 use borrow.Rule.Slice.PartMut.{put_mid}
 use lib.ListN.{length, take, drop, length-drop, drop_of_length-le}
@@ -38,9 +36,6 @@ inserted-back work new e bits n h long k step = record {
 }
 
 -- ---- the number of heads
-pub doubled : (bits heads : ℕ) → heads ≡ 2 ^ bits → 2 * heads ≡ 2 ^ (bits + 1)
-doubled bits heads e = omega (arith, ap (λ (k : ℕ). 2 ^ k) (add-one bits), two-pow-succ bits)
-
 pub few_bits : (bits room : ℕ) → 2 ^ bits ≤ room → room < 4294967296 → bits ≤ 31
 few_bits bits room h l = elim (native.Mathlib.Decide.dec_lt 31 bits) [
   | yes m ↦ absurd (omega (arith, pow_mono {i = 32} {j = bits} m))

@@ -28,6 +28,8 @@ const BANK_AREA: usize = 1503;
 // What 4 × (L + 479) words leave for the heads of the pairs' map, where L is 0.
 const HEAD_ROOM: usize = 413;
 
+const LEAST_HEADS: usize = 256;
+
 // How many heads the pairs' map may have: what there is room for, but not many more than trials, since all are emptied.
 fn most_heads(limit: usize, count: usize) -> usize
     requires { (limit ≤ pairs_max) × (count ≤ atoms_max) }
@@ -35,22 +37,15 @@ fn most_heads(limit: usize, count: usize) -> usize
 {
     let room = 3 * limit + HEAD_ROOM;
     let wanted = 6 * count * count;
-    if wanted < room { wanted } else { room }
+    wanted.min(room)
 }
 
-// The bits of the pairs' map.
+// The bits of the pairs' map, which has the least number of heads or more.
 pub fn map_bits(limit: usize, count: usize) -> u32
     requires { (limit ≤ pairs_max) × (count ≤ atoms_max) }
     ensures { (result ≤ 31) × (2 ^ result ≤ head_room limit) }
 {
-    let most = most_heads(limit, count);
-    let mut heads: usize = 256;
-    let mut bits: u32 = 8;
-    while 2 * heads <= most {
-        heads = 2 * heads;
-        bits += 1;
-    }
-    bits
+    most_heads(limit, count).max(LEAST_HEADS).ilog2()
 }
 
 // The chain of atom i in the bank's map.
@@ -68,11 +63,9 @@ fn fill_bank_map(map: &mut [u32], atoms: &[u64], count: usize)
     ensures { Held map.new atoms.now bank_bits count }
 {
     row_map::inner::clear(map, BANK_BITS);
-    let mut i: usize = 0;
-    while i < count {
+    for i in 0..count {
         let home = bank_home(atoms, i);
         row_map::inner::insert(map, BANK_BITS, i, home);
-        i += 1;
     }
 }
 
@@ -93,10 +86,7 @@ pub fn in_bank(work: &[u32], atoms: &[u64], count: usize, row: [u64; 16], print:
 {
     let map = &work[0..BANK_AREA];
     let found = row_map::inner::find_by(map, BANK_BITS, atoms, count, row, print);
-    match found {
-        Lookup::At(_) => true,
-        Lookup::Free(_) => false,
-    }
+    matches!(found, Lookup::At(_))
 }
 
 // The pair that has a row, or the chain for it.

@@ -15,10 +15,8 @@ pub fn is_order(rows: &[u64], n: usize, order: &[u32]) -> bool
         return false;
     }
     let mut word = rows[row_gates::ROW_WORDS * last];
-    let mut i: usize = 1;
-    while i < n {
+    for i in 1..n {
         let s = order[i] as usize;
-        i += 1;
         if s >= n {
             return false;
         }

@@ -2,7 +2,7 @@
 use Rattle.std.specs.Prelude.{◌≡◌, Bool, false, List, [], ◌∷◌, ◌++◌, ℕ, ◌+◌, ◌*◌, ◌^◌, ◌≤◌, ◌<◌, length, take, drop}
 use Rattle.limits.specs.Limits.{atoms_max, pairs_max}
 use Rattle.arrays.specs.Parts.{encode, put_part}
-use Rattle.row_map.specs.Map.{Held, home_of}
+use Rattle.row_map.specs.Map.{Held, Searchable, home_of}
 use Rattle.row_gates.specs.Gates.{gate_number}
 use Rattle.row_gates.specs.declared.Gate.{Gate}
 use Rattle.index_spec.specs.Index.{Trial, Index, rows_in, rows_of}
@@ -11,6 +11,8 @@ use Rattle.index_spec.specs.Encoding.{pair_part}
 use Rattle.index_maps.specs.Area.{bank_bits, bank_area}
 use Rattle.index_maps.specs.declared.inner.Job.{Job}
 use Rattle.index_trial.specs.declared.inner.Tally.{Tally}
+use Rattle.index_trial.specs.declared.inner.Build.{Build}
+use Rattle.index_trial.specs.declared.inner.Trial as Made
 
 -- the sizes that a build relies on
 pub record Sized (job : Job) (rows work pairs pairRows : List ℕ) : Type 0 where
@@ -61,3 +63,31 @@ pub record ListedPair (job : Job) (rows pairs pairRows work' pairs' pairRows' : 
 -- a trial by its gate, b and c
 abbrev pub trial : Gate → ℕ → ℕ → Trial
 trial g b c = record { gate = g; b = b; c = c }
+
+abbrev pub trial_of : Made.Trial → Trial
+trial_of t = trial t.gate t.b.0 t.c.0
+
+-- the three words of a pair
+abbrev pub words_of : Made.Trial → List ℕ
+words_of t = gate_number t.gate ∷ (t.b.0 ∷ (t.c.0 ∷ []))
+
+-- ---- the same of a build and what is lent to it: it is ready, the bank's map has room, and what trials and `list_pair` do
+abbrev pub IsReady : Build → ℕ → Type 0
+IsReady build n = Ready build.job build.atoms.now build.work.now build.pairs.now build.listed.now n
+
+abbrev pub HasBank : Build → Type 0
+HasBank build = (bank_area ≤ length build.work.now) × Searchable (take bank_area build.work.now) bank_bits build.atoms.now build.job.count
+
+abbrev pub Tried : Build → Build → ℕ → Tally → List Trial → Type 0
+Tried old new n r ts = Ran old.job old.atoms.now old.pairs.now old.listed.now n new.work.now new.pairs.now new.listed.now r ts
+
+abbrev pub Listed : Build → Build → ℕ → Made.Trial → List ℕ → Type 0
+Listed old new n t row = ListedPair old.job old.atoms.now old.pairs.now old.listed.now new.work.now new.pairs.now new.listed.now n t.gate t.b.0 t.c.0 row
+
+-- it is the same build, and holds the same references
+pub record SameLent (old new : Build) : Type 0 where
+  pub job : new.job ≡ old.job
+  pub work : new.work.ghost_name ≡ old.work.ghost_name
+  pub pairs : new.pairs.ghost_name ≡ old.pairs.ghost_name
+  pub listed : new.listed.ghost_name ≡ old.listed.ghost_name
+  pub atoms : new.atoms.now ≡ old.atoms.now

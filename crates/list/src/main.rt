@@ -5,21 +5,20 @@ ghost use Rattle.std.specs.Prelude.{◌+◌, ◌^◌, ◌<◌, length, OnOk, IfS
 ghost use Rattle.std.specs.Io.KnownBytes.{Appends};
 ghost use Rattle.listing.specs.Listing.{listing};
 
-use listing::ListingAnswer;
 use std::io::{self, Read, Write};
 
 // The program over any reader and writer: what is written is the listing of the text that is read. The buffer is as long as refusal 4 asks.
 fn run<R: Read, W: Write>(reader: &mut R, writer: &mut W) -> io::Result<()>
     ensures { OnOk result (IfSome (R.remaining reader.old) (λ text. length text + 1 < 2 ^ 64 → Appends (W.contents writer.old) (W.contents writer.new) (listing text))) }
 {
-    let t = text_io::read_all(reader)?;
+    let p = text_io::read_all(reader)?;
     let mut text = [0u8; 131072];
-    match listing::write_listing(&mut text, t.parse) {
-        ListingAnswer::Written(n) => {
+    match listing::write_listing(&mut text, p) {
+        Ok(n) => {
             text_io::write_text(writer, &text, n)?;
             Ok(())
         }
-        ListingAnswer::Refused(_) => Ok(()),
+        Err(_) => Ok(()),
     }
 }
 

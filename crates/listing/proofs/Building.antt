@@ -1,7 +1,7 @@
 -- Laws of a bank and its index in lent arrays. Assumes nothing.
 use mathlib.Core.Path.{◌≡◌, sym, ap, ap₂, ◌∙◌}
 use mathlib.Core.List.{List, [], map}
-use Prim.Native.Nat.{ℕ, ◌*◌, ◌≤◌, ◌<◌}
+use Prim.Native.Nat.{ℕ, ◌+◌, ◌*◌, ◌≤◌, ◌<◌}
 use native.Mathlib.Omega.{arith}
 use lib.ListN.{length, get_or, length-map}
 use lib.Seq.{ext_get_or}
@@ -19,12 +19,13 @@ use Rattle.bank_spec.specs.Bank.{bank_of}
 use Rattle.bank_spec.specs.Encoding.{Arrays, written}
 use Rattle.bank_spec.proofs.Encodings.{length_at, row_at}
 use Rattle.bank_spec.proofs.Banks.{bank-is_sound}
-use Rattle.bank_unary.specs.Phases.{Asked, Phase}
+use Rattle.bank_unary.specs.Phases.{Asked, Holding, Phase}
 use Rattle.text_print.specs.Text.{listing_of}
 use Rattle.text_print.specs.Printing.{Wrote}
 use Rattle.text_print.proofs.Decimals.{reads}
+use Rattle.listing.specs.declared.inner.Demand.{Demand}
 use Rattle.listing.specs.Listing.{count_of, width_of, limit_of, points_of, target_of, bank_for, text_for}
-use Rattle.listing.specs.Steps.{bank_index, Lent, Both}
+use Rattle.listing.specs.Steps.{bank_index, IsDemand, atoms_for, index_for, Both}
 
 -- the lent rows of a bank are its atoms' rows
 rows-joined : (bank : List Atom) (old : Arrays) (n : ℕ) → n ≡ length bank → ((k : ℕ) → k < length bank → length (get_or bank k no_atom).row ≡ 16)
@@ -55,22 +56,23 @@ module _ (nv w limit : ℕ) (points : List Point) (target : List ℕ) (a a' : Ar
       omega (arith, e, (bank-is_sound nv w points target asked.least asked.most).tokens k (omega arith))
 
   -- what the index build asks for
-  pub index-fits : (work pairs listed slots : List ℕ) → limit ≤ 500 → length work' ≡ length work → Lent a work pairs listed slots → index.Fits w n limit a'.rows work' pairs listed slots
-  index-fits work pairs listed slots h same lent = record {
+  pub index-fits : (pairs listed slots : List ℕ) → limit ≤ 500 → 4 * (500 + 479) ≤ length work' → 3 * 500 ≤ length pairs → 16 * 500 ≤ length listed → 500 ≤ length slots
+      → index.Fits w n limit a'.rows work' pairs listed slots
+  index-fits pairs listed slots h area p l o = record {
     width = asked.width;
     few = few-built;
     atoms = omega (arith, few-built, phase.ready.room.rows);
     most = omega arith;
-    pairs-fit = omega (arith, lent.pairs-fit);
-    rows_fit = omega (arith, lent.listed-fit);
-    order-fit = omega (arith, lent.slots-fit);
-    area = omega (arith, same, lent.area);
+    pairs-fit = omega (arith, p);
+    rows_fit = omega (arith, l);
+    order-fit = omega (arith, o);
+    area = omega (arith, area);
   }
 
   -- bank and index
   pub both-built : (pairs listed slots pairs' listed' slots' : List ℕ) (r : Tally) → limit ≤ 500 → 3 * 500 ≤ length pairs'
       → index.Made w n limit a'.rows pairs listed slots pairs' listed' slots' r
-      → Both a'.lengths a'.ops a'.operands a'.costs pairs' (record { atoms = n; pairs = r.pairs; cut = r.cut }) bank (bank_index w limit bank)
+      → Both a'.lengths a'.ops a'.operands a'.costs n pairs' r.pairs r.cut bank (bank_index w limit bank)
   both-built pairs listed slots pairs' listed' slots' r h room made = record {
     shown = record {
       few = few-built;
@@ -93,6 +95,22 @@ module _ (nv w limit : ℕ) (points : List Point) (target : List ℕ) (a a' : Ar
       mark = made.mark-is ∙ ap (λ (i : Index). i.cut) index-joined;
     };
   }
+
+-- the same of a bank that is built and may be listed
+module _ (d : Demand) (a : Arrays) (work : List ℕ) (n : ℕ) (is : IsDemand d) (h : Holding a work n (atoms_for d)) where
+  abbrev phase : Phase a a work n (atoms_for d)
+  phase = record { ready = h.ready; bank = h.bank }
+
+  pub demand-fits : (pairs listed slots : List ℕ) → 4 * (500 + 479) ≤ length work → 3 * 500 ≤ length pairs → 16 * 500 ≤ length listed → 500 ≤ length slots
+      → index.Fits d.setting.w n d.limit a.rows work pairs listed slots
+  demand-fits pairs listed slots area p l o =
+      index-fits d.setting.nv d.setting.w d.limit d.setting.points d.target a a work n is.asked phase pairs listed slots is.most area p l o
+
+  pub demand-built : (pairs listed slots pairs' listed' slots' : List ℕ) (r : Tally) → 3 * 500 ≤ length pairs'
+      → index.Made d.setting.w n d.limit a.rows pairs listed slots pairs' listed' slots' r
+      → Both a.lengths a.ops a.operands a.costs n pairs' r.pairs r.cut (atoms_for d) (index_for d)
+  demand-built pairs listed slots pairs' listed' slots' r room made =
+      both-built d.setting.nv d.setting.w d.limit d.setting.points d.target a a work n is.asked phase pairs listed slots pairs' listed' slots' r is.most room made
 
 -- the text of the numbers' own points and target
 pub text-is : (ns : List ℕ) (points : List Point) (target : List ℕ) {out out' : List ℕ} {r : ℕ} → points ≡ points_of ns → target ≡ target_of ns

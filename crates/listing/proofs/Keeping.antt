@@ -4,6 +4,7 @@ use mathlib.Core.Logic.{inl, inr}
 use mathlib.Core.Bool.{true, ◌||◌}
 use mathlib.Core.List.{List, [], ◌∷◌, map}
 use mathlib.Core.Option.{none, some}
+use Rattle.std.specs.Prelude.{Ok}
 use Prim.Native.Nat.{ℕ, zero, suc, ◌+◌, ◌*◌, ◌^◌, ◌≤◌, ◌<◌}
 use native.Mathlib.Nat.{mul-suc, mul-le-mul_left}
 use native.Mathlib.Omega.{arith}
@@ -27,7 +28,6 @@ use Rattle.text_print.specs.Text.{refused_line, listing_of}
 use Rattle.text_print.specs.Printing.{Wrote, text_max}
 use Rattle.text_print.proofs.Decimals.{reads}
 use Rattle.text_print.proofs.Answers.{answer_nine, answer-refused, answer-text}
-use Rattle.listing.specs.declared.ListingAnswer.TheVariants.{Written}
 use Rattle.listing.specs.Listing.{count_of, width_of, limit_of, point_of, points_of, target_of, numbers_refusal, bank_for, text_for, listing, Laid}
 use Rattle.listing.specs.Steps.{point_from, bank_index}
 use Rattle.listing.proofs.Refusing.{number_1, none-refused}
@@ -125,7 +125,7 @@ unfolding listing
 listing_nine text e = answer_nine numbers_refusal text_for (read_text listing_many text) e
 
 -- what is written from the buffer's start on
-pub laid : (xs ys : List ℕ) {out out' : List ℕ} {r : ℕ} → xs ≡ ys → Wrote out 0 out' r xs → r ≤ text_max → Laid out out' (Written r) ys
+pub laid : (xs ys : List ℕ) {out out' : List ℕ} {r : ℕ} → xs ≡ ys → Wrote out 0 out' r xs → r ≤ text_max → Laid out out' (Ok r) ys
 laid xs ys e w h =
     let n : length ys ≡ 0 + length ys = omega arith in
     let same = reads e w in

@@ -1,15 +1,14 @@
 -- Laws of the numbers of a text: the points and the target, word by word. Assumes nothing.
 use mathlib.Core.Path.{◌≡◌, refl, sym, ap, ap₂, ◌∙◌}
 use mathlib.Core.List.{List, [], ◌∷◌, ◌++◌, map, map-append}
-use Prim.Native.Nat.{ℕ, ◌+◌, ◌*◌, ◌≤◌, ◌<◌}
+use Prim.Native.Nat.{ℕ, ◌+◌, ◌-◌, ◌*◌, ◌<◌}
 use native.Mathlib.Nat.{mul-suc}
 use native.Mathlib.Numerals.{add-one}
 use native.Mathlib.Omega.{arith}
 use lib.ListN.{length, get_or, set, take, drop, length-drop}
-use lib.Seq.{take_all, take-suc, take-suc-set, length-take-le, get_or-take, get_or-drop}
+use lib.Seq.{take_all, take-suc, take-suc-set, length-take-le, get_or-drop}
 use Rattle.arrays.specs.Lists.{count_up}
 use Rattle.arrays.proofs.Lists.{count_add}
-use Rattle.arrays.proofs.Fill.{Filled, filled-all}
 use Rattle.probe_points.specs.declared.Point.{Point}
 use Rattle.bank_spec.specs.Encoding.{pad_to}
 use Rattle.bank_spec.proofs.Encodings.{pad_more}
@@ -62,12 +61,9 @@ unfolding points_of
 points-are numbers points k h long e = sym (take_all k points (omega arith)) ∙ e ∙ ap (λ (n : ℕ). map (point_of numbers) (count_up 0 n)) h
 
 -- ---- the target
--- all its words
-pub target_is : (numbers row : List ℕ) (base i : ℕ) → base ≡ 3 + 16 * count_of numbers → base + 16 ≤ length numbers → length row ≡ 16 → 16 ≤ i
-    → Filled (λ (k : ℕ). get_or numbers (base + k) 0) row i → row ≡ target_of numbers
+-- the loan of its sixteen words holds it
+pub target_part : (numbers : List ℕ) (nv : ℕ) → nv ≡ count_of numbers → take (3 + 16 * nv + 16 - (3 + 16 * nv)) (drop (3 + 16 * nv) numbers) ≡ target_of numbers
 unfolding target_of
-target_is numbers row base i b l long h f =
-    let all : length (take 16 (drop base numbers)) ≡ 16 = length-take-le 16 (drop base numbers) (omega (arith, length-drop base numbers)) in
-    filled-all (λ (k : ℕ). get_or numbers (base + k) 0) row (take 16 (drop base numbers)) i (long ∙ sym all) (omega arith) f
-    (λ k m. get_or-take 16 (drop base numbers) k 0 (omega arith) ∙ get_or-drop base numbers k 0)
-    ∙ ap (λ (n : ℕ). take 16 (drop n numbers)) b
+target_part numbers nv e =
+    let d : 3 + 16 * nv + 16 - (3 + 16 * nv) ≡ 16 = omega arith in
+    ap (λ (m : ℕ). take m (drop (3 + 16 * nv) numbers)) d ∙ ap (λ (n : ℕ). take 16 (drop (3 + 16 * n) numbers)) e

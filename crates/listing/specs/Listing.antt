@@ -1,7 +1,8 @@
 -- What the listing program writes of a text. Assumes nothing.
-use Rattle.std.specs.Prelude.{◌≡◌, ◌||◌, List, map, ℕ, ◌+◌, ◌*◌, ◌^◌, ◌≤◌, ◌<◌, ltb, length, get_or, take, drop}
+use Rattle.std.specs.Prelude.{◌≡◌, ◌||◌, List, map, ℕ, ◌+◌, ◌*◌, ◌^◌, ◌≤◌, ◌<◌, ltb, length, get_or, take, drop, Result}
 use Rattle.arrays.specs.Lists.{count_up}
-use Rattle.limits.specs.Refusal.{refuse, bad_count, bad_width, Outcome, refused, answer}
+use Rattle.limits.specs.Refusal.{refuse, bad_count, bad_width, refused, answer, says}
+use Rattle.limits.specs.declared.Refusal.{Refusal}
 use Rattle.probe_points.specs.declared.Point.{Point}
 use Rattle.bank_spec.specs.Push.{Atom}
 use Rattle.bank_spec.specs.Bank.{bank_of}
@@ -14,8 +15,6 @@ use Rattle.text_parse.specs.Text.{listing_many, read_text}
 use Rattle.text_parse.specs.Reading.{Reads}
 use Rattle.text_print.specs.Text.{listing_of, answer_of}
 use Rattle.text_print.specs.Printing.{Wrote, text_max}
-use Rattle.listing.specs.declared.ListingAnswer.{ListingAnswer}
-use Rattle.listing.specs.declared.ListingAnswer.TheVariants.{Written, Refused}
 
 -- ---- 01, Listing program: variable count, width, L, the words of each point in turn, the target row
 abbrev pub count_of : List ℕ → ℕ
@@ -65,18 +64,13 @@ unfolding answer_of numbers_refusal text_for listing_many read_text
 listing text = answer_of numbers_refusal text_for (read_text listing_many text)
 
 -- ---- the call
--- what each case of `ListingAnswer` says: its refusal, or how long the text is that stands in the buffer
-abbrev pub listing_says : ListingAnswer → Outcome ℕ
-listing_says (Written n) = answer n
-listing_says (Refused number) = refused number
-
 -- the text is laid from the buffer's start on, and its length is the answer
-pub record Laid (out out' : List ℕ) (r : ListingAnswer) (text : List ℕ) : Type 0 where
-  pub says : listing_says r ≡ answer (length text)
+pub record Laid (out out' : List ℕ) (r : Result ℕ Refusal) (text : List ℕ) : Type 0 where
+  pub says : says r ≡ answer (length text)
   pub fits : length text ≤ text_max
   pub wrote : Wrote out 0 out' (length text) text
 
 -- 01, Turned back, 4: a buffer shorter than 131,072 is refused and stays as it is; else the listing of whatever text was read
-pub record Listed (p : Parse) (out out' : List ℕ) (r : ListingAnswer) : Type 0 where
-  pub short : length out < text_max → (listing_says r ≡ refused 4) × (out' ≡ out)
+pub record Listed (p : Parse) (out out' : List ℕ) (r : Result ℕ Refusal) : Type 0 where
+  pub short : length out < text_max → (says r ≡ refused 4) × (out' ≡ out)
   pub written : text_max ≤ length out → (text : List ℕ) → length text + 1 < 2 ^ 64 → Reads p text → Laid out out' r (listing text)

@@ -1,16 +1,16 @@
 -- What the contracts of src/inner.rt cite, beside specs/Listing; no caller of the crate needs it. Assumes nothing.
-use Rattle.std.specs.Prelude.{◌||◌, List, map, ℕ, ◌+◌, ◌*◌, ◌^◌, ◌≤◌, length, take, drop}
-use Rattle.limits.specs.Limits.{atoms_max}
+use Rattle.std.specs.Prelude.{Bool, ◌||◌, List, map, ℕ, ◌^◌, ◌≤◌, take, drop}
 use Rattle.limits.specs.Refusal.{refuse}
 use Rattle.probe_points.specs.declared.Point.{Point}
 use Rattle.index_spec.specs.Index.{Index, all_gates, index_of}
 use Rattle.bank_spec.specs.Push.{Atom}
-use Rattle.bank_spec.specs.Encoding.{Arrays, pad_to}
+use Rattle.bank_spec.specs.Bank.{bank_of}
+use Rattle.bank_spec.specs.Encoding.{pad_to}
 use Rattle.row_lent.specs.Range.{reaches}
 use Rattle.bank.specs.Build.{points_reach}
-use Rattle.bank_unary.specs.Phases.{Fits}
+use Rattle.bank_unary.specs.Phases.{Asked}
 use Rattle.text_print.specs.Printing.{Shown, Holding}
-use Rattle.listing.specs.declared.inner.Counts.{Counts}
+use Rattle.listing.specs.declared.inner.Demand.{Demand}
 use Rattle.listing.specs.Listing.{count_of, width_of, limit_of, points_of, target_of}
 
 -- a point of nv words from place `base` on
@@ -33,15 +33,19 @@ reach_refusal ns = refuse (points_reach (2 ^ width_of ns) (count_of ns) (points_
 abbrev pub bank_index : ℕ → ℕ → List Atom → Index
 bank_index w L bank = index_of w L all_gates (map (λ (a : Atom). a.row) bank)
 
--- arrays that are long enough for a bank and for an index of 500 pairs
-pub record Lent (a : Arrays) (work pairs listed slots : List ℕ) : Type 0 where
-  pub bank : Fits a work
-  pub area : 4 * (500 + atoms_max) ≤ length work
-  pub pairs-fit : 3 * 500 ≤ length pairs
-  pub listed-fit : 16 * 500 ≤ length listed
-  pub slots-fit : 500 ≤ length slots
+-- a variable count, a width and a limit that are not refused
+pub record IsDemand (d : Demand) : Type 0 where
+  pub asked : Asked d.setting.nv d.setting.w
+  pub most : d.limit ≤ 500
+
+-- the bank that is listed, and its index
+abbrev pub atoms_for : Demand → List Atom
+atoms_for d = bank_of d.setting.nv d.setting.w d.setting.points d.target
+
+abbrev pub index_for : Demand → Index
+index_for d = bank_index d.setting.w d.limit (atoms_for d)
 
 -- the arrays hold the bank and its index, and may be printed
-pub record Both (lengths ops operands costs pairs : List ℕ) (r : Counts) (bank : List Atom) (index : Index) : Type 0 where
-  pub shown : Shown lengths ops operands costs r.atoms pairs r.pairs
-  pub holding : Holding lengths ops operands costs r.atoms pairs r.pairs r.cut bank index
+pub record Both (lengths ops operands costs : List ℕ) (n : ℕ) (pairs : List ℕ) (m : ℕ) (cut : Bool) (bank : List Atom) (index : Index) : Type 0 where
+  pub shown : Shown lengths ops operands costs n pairs m
+  pub holding : Holding lengths ops operands costs n pairs m cut bank index

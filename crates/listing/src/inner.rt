@@ -1,21 +1,24 @@
 // Points and target out of the numbers of a text, what is refused of them, and the listing that they ask for.
-ghost use Rattle.std.specs.Prelude.{◌≡◌, ◌+◌, ◌≤◌, length};
-ghost use Rattle.bank_spec.specs.Bank.{bank_of};
-ghost use Rattle.bank_parts.specs.Parts.{arrays};
-ghost use Rattle.bank_unary.specs.Phases.{Asked};
+ghost use Rattle.std.specs.Prelude.{◌≡◌, ◌+◌, ◌*◌, ◌≤◌, length};
+ghost use Rattle.limits.specs.Refusal.{refusal_of};
+ghost use Rattle.bank_parts.specs.Lent.{arrays_of};
+ghost use Rattle.bank_unary.specs.Phases.{Holding};
 ghost use Rattle.text_print.specs.Text.{listing_of};
 ghost use Rattle.text_print.specs.Printing.{Wrote, text_max};
 ghost use Rattle.listing.specs.Listing.{count_of, points_of, target_of, numbers_refusal, text_for};
-ghost use Rattle.listing.specs.Steps.{point_from, InRange, reach_refusal, bank_index, Lent, Both};
+ghost use Rattle.listing.specs.Steps.{point_from, InRange, reach_refusal, IsDemand, atoms_for, index_for};
 
 use bank::Sizes;
 use bank_atom::ATOM_TOKENS;
-use bank_parts::COST_NUMBERS;
+use bank_parts::{COST_NUMBERS, LentBank};
 use bank_push::WORK_WORDS;
+use bank_unary::Setting;
+use index::inner::Asked;
 use index_spec::PAIR_WORDS;
-use limits::ATOMS_MAX;
+use limits::{ATOMS_MAX, Refusal};
 use probe_points::{POINT_WORDS, POINTS, Point};
 use row_gates::ROW_WORDS;
+use text_print::inner::{Atoms, Pairs};
 
 // The most pairs of a listing, as a number that is read and as a length.
 const LIMIT_MAX: u64 = 500;
@@ -40,10 +43,8 @@ fn point_of(numbers: [u64; 115], base: usize, nv: usize) -> Point
     ensures { result ≡ point_from numbers base nv }
 {
     let mut words = [0u64; POINT_WORDS];
-    let mut i: usize = 0;
-    while i < nv {
+    for i in 0..nv {
         words[i] = numbers[base + i];
-        i += 1;
     }
     Point { words }
 }
@@ -57,12 +58,10 @@ fn points_of(numbers: [u64; 115], nv: usize) -> [Point; 16]
         words: [0; POINT_WORDS],
     }; POINTS];
     let mut base = POINTS_AT;
-    let mut k: usize = 0;
-    while k < POINTS {
+    for k in 0..POINTS {
         let p = point_of(numbers, base, nv);
         points[k] = p;
         base += nv;
-        k += 1;
     }
     points
 }
@@ -74,18 +73,14 @@ fn target_of(numbers: [u64; 115], nv: usize) -> [u64; 16]
 {
     let base = POINTS_AT + ROW_WORDS * nv;
     let mut row = [0u64; ROW_WORDS];
-    let mut i: usize = 0;
-    while i < ROW_WORDS {
-        row[i] = numbers[base + i];
-        i += 1;
-    }
+    row.copy_from_slice(&numbers[base..base + ROW_WORDS]);
     row
 }
 
-// The refusal of a word that isn't below 2^w: the bank build's, in arrays that are long enough.
-fn reach_refusal(numbers: [u64; 115]) -> u32
+// Whether a word isn't below 2^w: the bank build's refusal, in arrays that are long enough.
+fn check_reach(numbers: [u64; 115]) -> Result<(), Refusal>
     requires { InRange numbers }
-    ensures { result ≡ reach_refusal numbers }
+    ensures { refusal_of result ≡ reach_refusal numbers }
 {
     let nv = numbers[COUNT_AT] as usize;
     let points = points_of(numbers, nv);
@@ -98,76 +93,42 @@ fn reach_refusal(numbers: [u64; 115]) -> u32
         rows: ROW_WORDS * ATOMS_MAX,
         work: WORK_WORDS,
     };
-    bank::inner::bank_refusal(nv as u32, numbers[WIDTH_AT] as u32, points, target, sizes)
+    let setting = Setting {
+        nv: nv as u32,
+        w: numbers[WIDTH_AT] as u32,
+        points,
+    };
+    bank::inner::check(setting, target, sizes)
 }
 
-// The refusal of the numbers of a text, 0 where there is none. Of a variable count above 6 nothing past the first number is read.
-pub fn refusal_of(numbers: [u64; 115]) -> u32
-    ensures { result ≡ numbers_refusal numbers }
+// Whether the numbers of a text are refused. Of a variable count above 6 nothing past the first number is read.
+pub fn check(numbers: [u64; 115]) -> Result<(), Refusal>
+    ensures { refusal_of result ≡ numbers_refusal numbers }
 {
     if limits::inner::outside(numbers[COUNT_AT], 1, limits::MAX_VARS as u64) {
-        return 1;
+        return Err(Refusal::VariableCount);
     }
     if limits::inner::outside(numbers[WIDTH_AT], 1, limits::MAX_WIDTH as u64) {
-        return 2;
+        return Err(Refusal::Width);
     }
     if LIMIT_MAX < numbers[LIMIT_AT] {
-        return 3;
+        return Err(Refusal::Limit);
     }
-    reach_refusal(numbers)
+    check_reach(numbers)
 }
 
-// How many atoms and pairs are built, and the index's mark.
+// What is listed: the bank of a setting with the seeds of a target, and its index of at most `limit` pairs.
 #[derive(Clone, Copy)]
-pub struct Counts {
-    pub atoms: usize,
-    pub pairs: usize,
-    pub cut: bool,
-}
-
-// The bank and its index into arrays that are long enough.
-fn build_both(
-    lengths: &mut [u32],
-    ops: &mut [u8],
-    operands: &mut [u64],
-    costs: &mut [u32],
-    rows: &mut [u64],
-    work: &mut [u32],
-    pairs: &mut [u32],
-    listed: &mut [u64],
-    order: &mut [u32],
-    nv: u32,
-    w: u32,
-    limit: usize,
-    points: [Point; 16],
-    target: [u64; 16],
-) -> Counts
-    requires asked { Asked nv w × (limit ≤ 500) }
-    requires lent { Lent (arrays lengths.old ops.old operands.old costs.old rows.old) work.old pairs.old listed.old order.old }
-    ensures { Both lengths.new ops.new operands.new costs.new pairs.new result (bank_of nv w points target) (bank_index w limit (bank_of nv w points target)) }
-{
-    let atoms = bank_phases::inner::build(
-        lengths, ops, operands, costs, rows, work, nv, w, points, target,
-    );
-    let made = index::inner::build(work, pairs, listed, order, rows, w, atoms, limit);
-    Counts {
-        atoms,
-        pairs: made.pairs,
-        cut: made.cut,
-    }
+pub struct Demand {
+    pub setting: Setting,
+    pub limit: usize,
+    pub target: [u64; 16],
 }
 
 // Writes the listing of a bank and of its index, and answers the place after it.
-fn list_bank(
-    out: &mut [u8],
-    nv: u32,
-    w: u32,
-    limit: usize,
-    points: [Point; 16],
-    target: [u64; 16],
-) -> usize
-    requires { (Asked nv w × (limit ≤ 500)) × (text_max ≤ length out.old) }
-    ensures wrote { Wrote out.old 0 out.new result (listing_of (bank_of nv w points target) (bank_index w limit (bank_of nv w points target))) }
+fn list_bank(out: &mut [u8], demand: Demand) -> usize
+    requires { IsDemand demand × (text_max ≤ length out.old) }
+    ensures wrote { Wrote out.old 0 out.new result (listing_of (atoms_for demand) (index_for demand)) }
     ensures upper_bound { result ≤ text_max }
 {
     let mut lengths = [0u32; ATOMS_MAX];
@@ -176,36 +137,53 @@ fn list_bank(
     let mut costs = [0u32; COST_NUMBERS * ATOMS_MAX];
     let mut rows = [0u64; ROW_WORDS * ATOMS_MAX];
     let mut work = [0u32; AREA_WORDS];
+    let mut bank = LentBank {
+        lengths: &mut lengths,
+        ops: &mut ops,
+        operands: &mut operands,
+        costs: &mut costs,
+        rows: &mut rows,
+    };
+    let n = bank_phases::inner::build(&mut bank, &mut work, demand.setting, demand.target);
+    list_built(out, &bank, &mut work, n, demand)
+}
+
+// The same of the bank of n atoms that is built: the index is built of its rows.
+fn list_built(
+    out: &mut [u8],
+    bank: &LentBank<'_>,
+    work: &mut [u32],
+    n: usize,
+    demand: Demand,
+) -> usize
+    requires demand { IsDemand demand × (text_max ≤ length out.old) }
+    requires holding { Holding (arrays_of bank.now) work.old n (atoms_for demand) }
+    requires area { 4 * (500 + 479) ≤ length work.old }
+    ensures wrote { Wrote out.old 0 out.new result (listing_of (atoms_for demand) (index_for demand)) }
+    ensures upper_bound { result ≤ text_max }
+{
     let mut pairs = [0u32; PAIR_WORDS * PAIRS_MAX];
     let mut listed = [0u64; ROW_WORDS * PAIRS_MAX];
     let mut order = [0u32; PAIRS_MAX];
-    let built = build_both(
-        &mut lengths,
-        &mut ops,
-        &mut operands,
-        &mut costs,
-        &mut rows,
-        &mut work,
-        &mut pairs,
-        &mut listed,
-        &mut order,
-        nv,
-        w,
-        limit,
-        points,
-        target,
-    );
-    text_print::inner::print_listing(
-        out,
-        &lengths,
-        &ops,
-        &operands,
-        &costs,
-        built.atoms,
-        &pairs,
-        built.pairs,
-        built.cut,
-    )
+    let asked = Asked {
+        w: demand.setting.w,
+        count: n,
+        limit: demand.limit,
+    };
+    let made = index::inner::build(work, &mut pairs, &mut listed, &mut order, bank.rows, asked);
+    let atoms = Atoms {
+        lengths: bank.lengths,
+        ops: bank.ops,
+        operands: bank.operands,
+        costs: bank.costs,
+        n,
+    };
+    let shown = Pairs {
+        numbers: &pairs,
+        m: made.pairs,
+        cut: made.cut,
+    };
+    text_print::inner::print_listing(out, &atoms, &shown)
 }
 
 // Writes the listing that the numbers ask for, and answers the place after it.
@@ -217,12 +195,15 @@ pub fn list_numbers(out: &mut [u8], numbers: [u64; 115]) -> usize
     let nv = numbers[COUNT_AT] as usize;
     let points = points_of(numbers, nv);
     let target = target_of(numbers, nv);
-    list_bank(
-        out,
-        nv as u32,
-        numbers[WIDTH_AT] as u32,
-        numbers[LIMIT_AT] as usize,
+    let setting = Setting {
+        nv: nv as u32,
+        w: numbers[WIDTH_AT] as u32,
         points,
+    };
+    let demand = Demand {
+        setting,
+        limit: numbers[LIMIT_AT] as usize,
         target,
-    )
+    };
+    list_bank(out, demand)
 }

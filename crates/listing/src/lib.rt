@@ -5,33 +5,24 @@ pub mod inner;
 
 ghost use Rattle.listing.specs.Listing.{Listed};
 
+use limits::Refusal;
 use text_parse::Parse;
 
 // How long a buffer has to be: no listing is longer.
 pub const TEXT_MAX: usize = 131072;
 
-// The length of the text in the buffer, or the refusal of a buffer that is too short.
-#[derive(Clone, Copy)]
-pub enum ListingAnswer {
-    Written(usize),
-    Refused(u32),
-}
-
-// Writes what the listing program answers to the text that was read. Refuses 4.
-pub fn write_listing(out: &mut [u8], p: Parse) -> ListingAnswer
+// Writes what the listing program answers to the text that was read: how long its text in the buffer is. Refuses 4, a buffer that is too short.
+pub fn write_listing(out: &mut [u8], p: Parse) -> Result<usize, Refusal>
     ensures { Listed p out.old out.new result }
 {
     if out.len() < TEXT_MAX {
-        return ListingAnswer::Refused(4);
+        return Err(Refusal::ShortArray);
     }
-    let input = text_parse::finish(p);
-    if !input.fits {
-        return ListingAnswer::Written(text_print::inner::print_refusal(out, 9));
+    let Some(numbers) = text_parse::finish(p) else {
+        return Ok(text_print::inner::print_refusal(out, Refusal::Text));
+    };
+    if let Err(refusal) = inner::check(numbers) {
+        return Ok(text_print::inner::print_refusal(out, refusal));
     }
-    let numbers = input.numbers;
-    let number = inner::refusal_of(numbers);
-    if number != 0 {
-        return ListingAnswer::Written(text_print::inner::print_refusal(out, number));
-    }
-    ListingAnswer::Written(inner::list_numbers(out, numbers))
+    Ok(inner::list_numbers(out, numbers))
 }

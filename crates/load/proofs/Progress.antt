@@ -4,6 +4,7 @@ use Rattle.std.specs.Io.KnownBytes.{Appends}
 use Rattle.std.specs.declared.option.Option.{Option}
 use Rattle.std.specs.declared.result.Result.{Result}
 use Rattle.std.specs.Prelude.{None, Some, Ok, Err, OnOk, IfSome, ◌^◌}
+use Rattle.limits.specs.declared.Refusal.{Refusal}
 use Rattle.text_parse.specs.declared.Parse.{Parse}
 use Rattle.text_parse.specs.Reading.{Reads}
 use Rattle.text_parse.specs.Text.{load_many, read_text}
@@ -37,15 +38,30 @@ wrote_both (Some xs) (Some ys) (Some zs) a b h k = rw (k, h, append_assoc) refl
 laid_taken : (out t : List ℕ) → length t ≤ length out → take (length t) (sets out 0 t) ≡ t
 laid_taken out t h = let fits : 0 + length t ≤ length out = omega (arith, h) in rw (sets-eq t out 0 fits) (take-append_seam t (drop (0 + length t) out))
 
--- a call with room for a line
-module _ {l : Load} {out out' : List ℕ} {r : LoadPart} (room : line_max ≤ length out) (w : WroteSome l out out' r) where
+-- a call with room for a line is not refused
+abbrev IsRefused : Result LoadPart Refusal → Type 0
+IsRefused (Ok p) = ⊥
+IsRefused (Err e) = Unit {0}
+
+pub never_refused : {l : Load} {out out' : List ℕ} {e : Refusal} → line_max ≤ length out → WroteSome l out out' (Err e) → ⊥
+never_refused room w = subst IsRefused (w.written room).0 tt
+
+-- what it answers
+module _ {l : Load} {out out' : List ℕ} {r : LoadPart} (room : line_max ≤ length out) (w : WroteSome l out out' (Ok r)) where
+  pub part_is : r ≡ record { length = length (part_of l (length out)).text; load = (part_of l (length out)).load }
+  part_is = ap part_in (w.written room).0
+    where
+      part_in : Result LoadPart Refusal → LoadPart
+      part_in (Ok p) = p
+      part_in (Err e) = r
+
   pub part_taken : take r.length out' ≡ (part_of l (length out)).text
   part_taken =
-      let long : r.length ≡ length (part_of l (length out)).text = ap (λ (p : LoadPart). p.length) (w.written room).0 in
+      let long : r.length ≡ length (part_of l (length out)).text = ap (λ (p : LoadPart). p.length) part_is in
       rw (long, (w.written room).1) (laid_taken out (part_of l (length out)).text (part_fits l (length out) room))
 
   pub part_length : r.length ≤ length out
-  part_length = omega (arith, ap (λ (p : LoadPart). p.length) (w.written room).0, part_fits l (length out) room)
+  part_length = omega (arith, ap (λ (p : LoadPart). p.length) part_is, part_fits l (length out) room)
 
   -- one more call, whose text is written
   pub write_more : {old mid new : Option (List ℕ)} {load : Load} → 0 < l.left → HasWritten old mid load l → Appends mid new (take r.length out') → HasWritten old new load r.load
@@ -53,7 +69,7 @@ module _ {l : Load} {out out' : List ℕ} {r : LoadPart} (room : line_max ≤ le
     done = h.done ++ (part_of l (length out)).text;
     wrote = wrote_both old mid new h.done _ h.wrote (subst (Appends mid new) part_taken k);
     rest =
-        let handed : r.load ≡ (part_of l (length out)).load = ap (λ (p : LoadPart). p.load) (w.written room).0 in
+        let handed : r.load ≡ (part_of l (length out)).load = ap (λ (p : LoadPart). p.load) part_is in
         rw (handed, append_assoc, ← owed_on l (length out) some) h.rest;
   }
 

@@ -15,8 +15,11 @@ fn write_load<W: Write>(writer: &mut W, load: Load) -> io::Result<()>
 {
     let mut text = [0u8; 65536];
     let mut l = load;
+    // no count: a buffer takes as many lines as fit, so how many are left is told by the load
     while 0 < load_text::left(l) {
-        let part = load_text::write_some(&mut text, l);
+        let Ok(part) = load_text::write_some(&mut text, l) else {
+            return Ok(());
+        };
         if !text_io::write_text(writer, &text, part.length)? {
             return Ok(());
         }
@@ -29,8 +32,8 @@ fn write_load<W: Write>(writer: &mut W, load: Load) -> io::Result<()>
 fn run<R: Read, W: Write>(reader: &mut R, writer: &mut W) -> io::Result<()>
     ensures { OnOk result (IfSome (R.remaining reader.old) (λ text. length text + 1 < 2 ^ 64 → Appends (W.contents writer.old) (W.contents writer.new) (load_text text))) }
 {
-    let t = text_io::read_all(reader)?;
-    write_load(writer, load_text::start(t.parse))
+    let p = text_io::read_all(reader)?;
+    write_load(writer, load_text::start(p))
 }
 
 // A read or a write that fails is an error; after a read that fails nothing is drawn.

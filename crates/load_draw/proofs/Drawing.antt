@@ -3,20 +3,18 @@ use mathlib.Core.Path.{◌≡◌, refl, sym, ap, ap₂, ◌∙◌}
 use mathlib.Core.Bool.{true}
 use mathlib.Core.List.{List, [], ◌∷◌, ◌++◌, map, map-append, append-nil}
 use Prim.Native.Nat.{ℕ, zero, suc, ◌+◌, ◌-◌, ◌%◌, ◌^◌, ◌≤◌, ◌<◌}
-use native.Mathlib.Nat.{mod-lt, pos_of_ne-zero}
+use native.Mathlib.Nat.{mod-lt}
 use native.Mathlib.Omega.{arith}
 use lib.ListN.{length, set, drop, length-map, length-append}
 use lib.Seq.{append_snoc}
 use Rattle.arrays.specs.Lists.{laid}
 use Rattle.arrays.proofs.Fill.{laid_more}
-use Rattle.limits.specs.Refusal.{unless_refused}
-use Rattle.limits.proofs.Refusals.{unless_refused_lem}
 use Rattle.probe_points.specs.declared.Draw.{Draw}
 use Rattle.probe_points.specs.Points.{next_state, drawn}
 use Rattle.expr.specs.declared.Token.{Token}
 use Rattle.expr.specs.Formula.{token_of, arity, opcode_of, operand_of, tokens}
 use Rattle.expr.proofs.Tokens.{tokens-back}
-use Rattle.load_draw.specs.Draw.{drawn_word, takes, may_pick, picked_by, token_from, state_from, Drawn, onto, rest_from, formula_from, drawn_or, laid_or}
+use Rattle.load_draw.specs.Draw.{drawn_word, takes, may_pick, picked_by, token_from, state_from, Drawn, onto, rest_from, formula_from, counted}
 use Rattle.load_draw.proofs.Picking.{picked_may, picked_below, may-takes, may-rest, can_most}
 
 -- ---- one token
@@ -200,30 +198,5 @@ unfolding formula_from
 whole nv w limit s x e = ap (λ (y : Draw). rest_from nv w (1 + y.word % limit) 0 y.state) e
 
 pub drew : (nv w limit s count last : ℕ) → count ≡ length (formula_from nv w limit s).form → last ≡ (formula_from nv w limit s).state
-    → record { refusal = 0; count = count; state = last } ≡ drawn_or 0 s (formula_from nv w limit s)
-drew nv w limit s count last p q = λ i. record { refusal = 0; count = p i; state = q i }
-
--- turned back
-module _ (number n s : ℕ) (d : Drawn) (e : number ≡ n) (some : number ≡ 0 → ⊥) where
-  above : 0 < n
-  above = pos_of_ne-zero (λ z. some (e ∙ z))
-
-  pub turned : record { refusal = number; count = 0; state = s } ≡ drawn_or n s d
-  turned = λ i. record { refusal = e i; count = none i; state = same i }
-    where
-      none : 0 ≡ unless_refused n (length d.form) 0
-      none = sym (unless_refused_lem n (length d.form) 0 above)
-
-      same : s ≡ unless_refused n d.state s
-      same = sym (unless_refused_lem n d.state s above)
-
-  pub turned_array : (part : Token → ℕ) (old : List ℕ) → old ≡ laid_or n part d old
-  turned_array part old = sym (unless_refused_lem n (laid (map part d.form) old) old above)
-
--- not turned back
-module _ (number n s : ℕ) (d : Drawn) (e : number ≡ n) (none : number ≡ 0) where
-  pub answered : drawn_or 0 s d ≡ drawn_or n s d
-  answered = ap (λ (k : ℕ). drawn_or k s d) (sym none ∙ e)
-
-  pub answered_array : (part : Token → ℕ) (old : List ℕ) → laid (map part d.form) old ≡ laid_or n part d old
-  answered_array part old = ap (λ (k : ℕ). laid_or k part d old) (sym none ∙ e)
+    → record { count = count; state = last } ≡ counted (formula_from nv w limit s)
+drew nv w limit s count last p q = λ i. record { count = p i; state = q i }

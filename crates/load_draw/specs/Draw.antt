@@ -1,7 +1,7 @@
 -- One formula of a test load, drawn with splitmix64. Assumes nothing.
 use Rattle.std.specs.Prelude.{Bool, not, ◌&&◌, List, [], ◌∷◌, map, ℕ, zero, suc, ◌+◌, ◌-◌, ◌%◌, ◌^◌, leb, length, get_or}
 use Rattle.arrays.specs.Lists.{count_up, keep, laid}
-use Rattle.limits.specs.Refusal.{refuse, unless_refused, outside_of, bad_count, bad_width}
+use Rattle.limits.specs.Refusal.{refuse, unless_refused, Outcome, outcome, outside_of, bad_count, bad_width}
 use Rattle.probe_points.specs.Points.{next_state, word_of}
 use Rattle.expr.specs.declared.Token.{Token}
 use Rattle.expr.specs.declared.Token.TheVariants.{Constant, Variable}
@@ -99,9 +99,9 @@ draw_refusal nv w limit ops operands =
     (refuse (not (bad_limit limit) && too_short limit ops operands) 4
     (refuse (bad_limit limit) 6 0)))
 
--- the answer, with d the formula: refused, no token and the state as it was
-abbrev pub drawn_or : ℕ → ℕ → Drawn → DrawnFormula
-drawn_or number s d = record { refusal = number; count = unless_refused number (length d.form) 0; state = unless_refused number d.state s }
+-- the answer of a formula that was drawn: how many tokens it has, and the state handed on
+abbrev pub counted : Drawn → DrawnFormula
+counted d = record { count = length d.form; state = d.state }
 
 -- what stands in an array of opcodes or of operands: refused, what it held
 abbrev pub laid_or : ℕ → (Token → ℕ) → Drawn → List ℕ → List ℕ
@@ -109,13 +109,13 @@ laid_or number part d old = unless_refused number (laid (map part d.form) old) o
 
 -- a call's answer, and what it leaves in the arrays
 pub record Called : Type 0 where
-  pub answer : DrawnFormula
+  pub answer : Outcome DrawnFormula
   pub ops : List ℕ
   pub operands : List ℕ
 
 abbrev pub called : ℕ → ℕ → ℕ → ℕ → List ℕ → List ℕ → Called
 called s nv w limit ops operands = record {
-  answer = drawn_or (draw_refusal nv w limit ops operands) s (formula_from nv w limit s);
+  answer = outcome (draw_refusal nv w limit ops operands) (counted (formula_from nv w limit s));
   ops = laid_or (draw_refusal nv w limit ops operands) opcode_of (formula_from nv w limit s) ops;
   operands = laid_or (draw_refusal nv w limit ops operands) operand_of (formula_from nv w limit s) operands;
 }

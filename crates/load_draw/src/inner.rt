@@ -1,12 +1,14 @@
 // The steps of a draw, and its refusals.
 ghost use Rattle.std.specs.Prelude.{◌≡◌, map, ◌+◌, ◌≤◌, ◌<◌, length, set};
+ghost use Rattle.limits.specs.Refusal.{refusal_of};
 ghost use Rattle.expr.specs.Formula.{opcode_of, operand_of};
 ghost use Rattle.arrays.specs.Lists.{laid};
-ghost use Rattle.load_draw.specs.Draw.{takes, picked_by, token_from, state_from, rest_from, formula_from, bad_limit, draw_refusal, drawn_or};
+ghost use Rattle.load_draw.specs.Draw.{takes, picked_by, token_from, state_from, rest_from, formula_from, bad_limit, draw_refusal, counted};
 ghost use Rattle.load_draw.specs.Steps.{Ready};
 
 use crate::DrawnFormula;
 use expr::MAX_TOKENS;
+use limits::Refusal;
 
 // Whether a token limit is not 1 to 64: refusal 6.
 pub fn bad_limit(limit: usize) -> bool
@@ -15,23 +17,23 @@ pub fn bad_limit(limit: usize) -> bool
     limits::inner::outside(limit as u64, 1, MAX_TOKENS as u64)
 }
 
-// The refusal, 0 where there is none. 6 and 4 exclude each other: 4 is for a limit of 1 to 64.
-pub fn draw_refusal(ops: &[u8], operands: &[u64], nv: u32, w: u32, limit: usize) -> u32
-    ensures { result ≡ draw_refusal nv w limit ops.now operands.now }
+// Whether a call is refused. 6 and 4 exclude each other: 4 is for a limit of 1 to 64.
+pub fn check(ops: &[u8], operands: &[u64], nv: u32, w: u32, limit: usize) -> Result<(), Refusal>
+    ensures { refusal_of result ≡ draw_refusal nv w limit ops.now operands.now }
 {
     if limits::inner::bad_count(nv) {
-        return 1;
+        return Err(Refusal::VariableCount);
     }
     if limits::inner::bad_width(w) {
-        return 2;
+        return Err(Refusal::Width);
     }
     if bad_limit(limit) {
-        return 6;
+        return Err(Refusal::Formula);
     }
     if expr::inner::too_short(limit, ops, operands) {
-        return 4;
+        return Err(Refusal::ShortArray);
     }
-    0
+    Ok(())
 }
 
 // The length, and then the tokens.
@@ -44,18 +46,14 @@ pub fn draw(
     limit: usize,
 ) -> DrawnFormula
     requires { Ready nv w limit ops.old operands.old }
-    ensures value { result ≡ drawn_or 0 state (formula_from nv w limit state) }
+    ensures value { result ≡ counted (formula_from nv w limit state) }
     ensures ops_after { ops.new ≡ laid (map opcode_of (formula_from nv w limit state).form) ops.old }
     ensures operands_after { operands.new ≡ laid (map operand_of (formula_from nv w limit state).form) operands.old }
 {
     let first = probe_points::splitmix64(state);
     let count = 1 + (first.word % (limit as u64)) as usize;
     let last = draw_tokens(ops, operands, first.state, nv, w, count);
-    DrawnFormula {
-        refusal: 0,
-        count,
-        state: last,
-    }
+    DrawnFormula { count, state: last }
 }
 
 // All tokens, left to right; `depth` values are on the stack. Answers the state after them.
@@ -74,14 +72,12 @@ fn draw_tokens(
 {
     let mut s = state;
     let mut depth: usize = 0;
-    let mut i: usize = 0;
-    while i < count {
+    for i in 0..count {
         let x = probe_points::splitmix64(s);
         let o = pick(x.word, depth, count - i - 1);
         ops[i] = o;
         s = put_operand(operands, x.state, i, o, nv, w);
         depth = depth + 1 - takes_of(o);
-        i += 1;
     }
     s
 }

@@ -4,12 +4,14 @@
 pub mod inner;
 
 ghost use Rattle.std.specs.Prelude.{◌≡◌};
+ghost use Rattle.limits.specs.Refusal.{says};
 ghost use Rattle.load_draw.specs.Draw.{called};
 
-// How many tokens were drawn, and the state handed on; no token and the state as it was beside a refusal.
+use limits::Refusal;
+
+// How many tokens were drawn, and the state handed on.
 #[derive(Clone, Copy)]
 pub struct DrawnFormula {
-    pub refusal: u32,
     pub count: usize,
     pub state: u64,
 }
@@ -22,18 +24,11 @@ pub fn draw_formula(
     nv: u32,
     w: u32,
     limit: usize,
-) -> DrawnFormula
-    ensures value { result ≡ (called state nv w limit ops.old operands.old).answer }
+) -> Result<DrawnFormula, Refusal>
+    ensures value { says result ≡ (called state nv w limit ops.old operands.old).answer }
     ensures ops_after { ops.new ≡ (called state nv w limit ops.old operands.old).ops }
     ensures operands_after { operands.new ≡ (called state nv w limit ops.old operands.old).operands }
 {
-    let refusal = inner::draw_refusal(ops, operands, nv, w, limit);
-    if refusal != 0 {
-        return DrawnFormula {
-            refusal,
-            count: 0,
-            state,
-        };
-    }
-    inner::draw(ops, operands, state, nv, w, limit)
+    inner::check(ops, operands, nv, w, limit)?;
+    Ok(inner::draw(ops, operands, state, nv, w, limit))
 }

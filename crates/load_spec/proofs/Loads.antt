@@ -9,10 +9,11 @@ use Rattle.expr.specs.declared.Token.{Token}
 use Rattle.expr.specs.Formula.{opcode_of, operand_of, tokens}
 use Rattle.arrays.specs.Lists.{laid}
 use Rattle.arrays.proofs.Fill.{length-laid}
-use Rattle.load_draw.specs.Draw.{Drawn, formula_from, load_from, load_state, draw_refusal, drawn_or, laid_or, Called, called}
+use Rattle.limits.specs.Refusal.{outcome, answer}
+use Rattle.load_draw.specs.Draw.{Drawn, formula_from, load_from, load_state, draw_refusal, counted, laid_or, Called, called}
 use Rattle.load_draw.proofs.Drawing.{laid-reads, form-most}
 use Rattle.load_draw.proofs.Refusing.{ready, ready-none}
-use Rattle.load_spec.specs.Loads.{Loaded, before, calls_from, LoadIsCalls, SameLoad, StateRunsOn, FirstOfLonger}
+use Rattle.load_spec.specs.Loads.{Loaded, handed_on, before, calls_from, LoadIsCalls, SameLoad, StateRunsOn, FirstOfLonger}
 
 -- ---- a load is calls
 module _ (nv w limit s : ℕ) (ops operands : List ℕ) (none : draw_refusal nv w limit ops operands ≡ 0) where
@@ -20,8 +21,8 @@ module _ (nv w limit s : ℕ) (ops operands : List ℕ) (none : draw_refusal nv 
   d = formula_from nv w limit s
 
   -- a call that isn't refused
-  call-is : called s nv w limit ops operands ≡ record { answer = drawn_or 0 s d; ops = laid (map opcode_of d.form) ops; operands = laid (map operand_of d.form) operands }
-  call-is = ap (λ (n : ℕ). record { answer = drawn_or n s d; ops = laid_or n opcode_of d ops; operands = laid_or n operand_of d operands }) none
+  call-is : called s nv w limit ops operands ≡ record { answer = answer (counted d); ops = laid (map opcode_of d.form) ops; operands = laid (map operand_of d.form) operands }
+  call-is = ap (λ (n : ℕ). record { answer = outcome n (counted d); ops = laid_or n opcode_of d ops; operands = laid_or n operand_of d operands }) none
 
   call-form : tokens (length d.form) (laid (map opcode_of d.form) ops) (laid (map operand_of d.form) operands) ≡ d.form
   call-form = laid-reads d.form ops operands
@@ -47,7 +48,7 @@ unfolding calls_from load_from load_state
 load-is-calls nv w limit zero s ops operands none = refl
 load-is-calls nv w limit (suc n) s ops operands none =
     let x = formula_from nv w limit s in
-    ap (λ (c : Called). before c (calls_from nv w limit n c.ops c.operands c.answer.state)) (call-is nv w limit s ops operands none)
+    ap (λ (c : Called). before s c (calls_from nv w limit n c.ops c.operands (handed_on s c.answer).state)) (call-is nv w limit s ops operands none)
     ∙ ap₂ (λ (ts : List Token) (more : Loaded). record { forms = ts ∷ more.forms; state = more.state })
     (call-form nv w limit s ops operands none)
     (load-is-calls nv w limit n x.state (laid (map opcode_of x.form) ops) (laid (map operand_of x.form) operands) (call-again nv w limit s ops operands none))

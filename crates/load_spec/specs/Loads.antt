@@ -2,6 +2,8 @@
 use Rattle.std.specs.Prelude.{◌≡◌, List, [], ◌∷◌, ◌++◌, ℕ, zero, suc, ◌+◌, ◌≤◌, take}
 use Rattle.expr.specs.declared.Token.{Token}
 use Rattle.expr.specs.Formula.{tokens}
+use Rattle.limits.specs.Refusal.{Outcome, refused, answer}
+use Rattle.load_draw.specs.declared.DrawnFormula.{DrawnFormula}
 use Rattle.load_draw.specs.Draw.{formula_from, load_from, load_state, draw_refusal, Called, called}
 
 -- formulas, and the state after them
@@ -9,16 +11,21 @@ pub record Loaded : Type 0 where
   pub forms : List (List Token)
   pub state : ℕ
 
--- the formula that stands in the arrays after a call, before those of the calls after it
-abbrev pub before : Called → Loaded → Loaded
-before c more = record { forms = tokens c.answer.count c.ops c.operands ∷ more.forms; state = more.state }
+-- the count and the state that a call hands on: of one that is refused no token, and the state as it was
+abbrev pub handed_on : ℕ → Outcome DrawnFormula → DrawnFormula
+handed_on s (refused number) = record { count = 0; state = s }
+handed_on s (answer d) = d
+
+-- the formula that stands in the arrays after a call in state s, before those of the calls after it
+abbrev pub before : ℕ → Called → Loaded → Loaded
+before s c more = record { forms = tokens (handed_on s c.answer).count c.ops c.operands ∷ more.forms; state = more.state }
 
 -- n calls of `draw_formula`, each on what the one before left and handed on
 unfoldable pub calls_from : ℕ → ℕ → ℕ → ℕ → List ℕ → List ℕ → ℕ → Loaded
 unfolding formula_from draw_refusal tokens
 calls_from nv w limit zero ops operands s = record { forms = []; state = s }
 calls_from nv w limit (suc n) ops operands s =
-    let c : Called = called s nv w limit ops operands in before c (calls_from nv w limit n c.ops c.operands c.answer.state)
+    let c : Called = called s nv w limit ops operands in before s c (calls_from nv w limit n c.ops c.operands (handed_on s c.answer).state)
 
 -- 02, 2.2: one call draws one formula and hands the state on; a load of n is n calls
 abbrev pub LoadIsCalls : Type 0

@@ -114,11 +114,10 @@ module _ (l : Load) (out₀ : List ℕ) where
         less = omega (arith, wrote.next)
 
     -- at the end, where no line is left or no room
-    module _ (r : LoadPart) (is : r ≡ record { refusal = 0; length = p; load = further l left state }) where
+    module _ (r : LoadPart) (is : r ≡ record { length = p; load = further l left state }) where
       ended : lines_in l.nv l.w l.limit (length out₀ - p) left state ≡ record { text = []; left = left; state = state } → WroteLines l out₀ out r
       ended e = subst (WroteLines l out₀ out) (sym is) (record {
         wrote = reads (sym (ap (λ (f : Lines). f.text) all)) g.wrote;
-        none = refl;
         load = ap (λ (f : Lines). further l f.left f.state) (sym all);
       })
         where

@@ -1,5 +1,6 @@
 // A load out of the numbers of a text, and its lines.
-ghost use Rattle.std.specs.Prelude.{◌≡◌, ◌+◌, ◌≤◌, length};
+ghost use Rattle.std.specs.Prelude.{◌≡◌, ◌+◌, ◌≤◌, length, None};
+ghost use Rattle.limits.specs.Refusal.{number_of, refusal_of};
 ghost use Rattle.text_print.specs.Text.{formula_line, refused_line};
 ghost use Rattle.text_print.specs.Printing.{Wrote};
 ghost use Rattle.load_draw.specs.Draw.{formula_from};
@@ -10,6 +11,7 @@ ghost use Rattle.load_text.specs.Steps.{WroteFit, WroteLines};
 
 use crate::{LINE_MAX, Load, LoadPart};
 use expr::MAX_TOKENS;
+use limits::Refusal;
 
 // Where seed, variable count, width, limit and n stand among the numbers.
 const SEED_AT: usize = 0;
@@ -22,20 +24,20 @@ const LIMIT_AT: usize = 3;
 
 const MANY_AT: usize = 4;
 
-// The refusal of the numbers of a text, 0 where there is none.
-pub fn refusal_of(numbers: [u64; 115]) -> u32
-    ensures { result ≡ numbers_refusal numbers }
+// Whether the numbers of a text are refused.
+pub fn check(numbers: [u64; 115]) -> Result<(), Refusal>
+    ensures { refusal_of result ≡ numbers_refusal numbers }
 {
     if limits::inner::outside(numbers[COUNT_AT], 1, limits::MAX_VARS as u64) {
-        return 1;
+        return Err(Refusal::VariableCount);
     }
     if limits::inner::outside(numbers[WIDTH_AT], 1, limits::MAX_WIDTH as u64) {
-        return 2;
+        return Err(Refusal::Width);
     }
     if limits::inner::outside(numbers[LIMIT_AT], 1, MAX_TOKENS as u64) {
-        return 6;
+        return Err(Refusal::Formula);
     }
-    0
+    Ok(())
 }
 
 // The load that the numbers ask for.
@@ -44,7 +46,7 @@ pub fn load_of(numbers: [u64; 115]) -> Load
     ensures { result ≡ load_of numbers }
 {
     Load {
-        number: 0,
+        refusal: None,
         state: numbers[SEED_AT],
         nv: numbers[COUNT_AT] as u32,
         w: numbers[WIDTH_AT] as u32,
@@ -53,12 +55,12 @@ pub fn load_of(numbers: [u64; 115]) -> Load
     }
 }
 
-// A load of no formula: a number and the line that tells it, or nothing.
-pub fn bare_load(number: u32, left: u64) -> Load
-    ensures { result ≡ bare_load number left }
+// A load of no formula: a refusal and the line that tells it, or nothing.
+pub fn bare_load(refusal: Option<Refusal>, left: u64) -> Load
+    ensures { result ≡ bare_load refusal left }
 {
     Load {
-        number,
+        refusal,
         state: 0,
         nv: 1,
         w: 1,
@@ -68,16 +70,15 @@ pub fn bare_load(number: u32, left: u64) -> Load
 }
 
 // The line of a refusal, after which nothing is left.
-pub fn write_refusal(out: &mut [u8], number: u32) -> LoadPart
+pub fn write_refusal(out: &mut [u8], refusal: Refusal) -> LoadPart
     requires { line_max ≤ length out.old }
-    ensures wrote { Wrote out.old 0 out.new result.length (refused_line number) }
-    ensures refusal_value { (result.refusal ≡ 0) × (result.load ≡ bare_load 0 0) }
+    ensures wrote { Wrote out.old 0 out.new result.length (refused_line (number_of refusal)) }
+    ensures load { result.load ≡ bare_load None 0 }
 {
-    let length = text_print::inner::print_refusal(out, number);
+    let length = text_print::inner::print_refusal(out, refusal);
     LoadPart {
-        refusal: 0,
         length,
-        load: bare_load(0, 0),
+        load: bare_load(None, 0),
     }
 }
 
@@ -88,11 +89,10 @@ pub fn write_fit(out: &mut [u8], load: Load) -> LoadPart
 {
     let mut ops = [0u8; MAX_TOKENS];
     let mut operands = [0u64; MAX_TOKENS];
-    if load_draw::inner::draw_refusal(&ops, &operands, load.nv, load.w, load.limit) != 0 {
+    if let Err(_) = load_draw::inner::check(&ops, &operands, load.nv, load.w, load.limit) {
         return LoadPart {
-            refusal: 0,
             length: 0,
-            load: bare_load(0, 0),
+            load: bare_load(None, 0),
         };
     }
     write_lines(out, &mut ops, &mut operands, load)
@@ -107,6 +107,7 @@ fn write_lines(out: &mut [u8], ops: &mut [u8], operands: &mut [u64], load: Load)
     let mut state = load.state;
     let mut left = load.left;
     let mut p: usize = 0;
+    // no count: a step is as long as its line
     while p <= last {
         if left == 0 {
             return lines_part(load, left, state, p);
@@ -121,13 +122,12 @@ fn write_lines(out: &mut [u8], ops: &mut [u8], operands: &mut [u64], load: Load)
 
 // The answer where p bytes are written and so many lines are left.
 fn lines_part(load: Load, left: u64, state: u64, p: usize) -> LoadPart
-    ensures { result ≡ record { refusal = 0; length = p; load = further load left state } }
+    ensures { result ≡ record { length = p; load = further load left state } }
 {
     LoadPart {
-        refusal: 0,
         length: p,
         load: Load {
-            number: 0,
+            refusal: None,
             state,
             nv: load.nv,
             w: load.w,

@@ -8,15 +8,16 @@ ghost use Rattle.text_parse.specs.Reading.{Reads};
 ghost use Rattle.text_parse.specs.Text.{load_many, read_text};
 ghost use Rattle.load_text.specs.Writing.{start_of, WroteSome};
 
+use limits::Refusal;
 use text_parse::Parse;
 
 // How long a buffer has to be: no line is longer.
 pub const LINE_MAX: usize = 1409;
 
-// What is still to be written: the line that tells a refusal's number, or as many lines as are left, drawn from the state on.
+// What is still to be written: the line that tells a refusal, or as many lines as are left, drawn from the state on.
 #[derive(Clone, Copy)]
 pub struct Load {
-    number: u32,
+    refusal: Option<Refusal>,
     state: u64,
     nv: u32,
     w: u32,
@@ -27,7 +28,6 @@ pub struct Load {
 // How much stands in the buffer, and what is still to be written.
 #[derive(Clone, Copy)]
 pub struct LoadPart {
-    pub refusal: u32,
     pub length: usize,
     pub load: Load,
 }
@@ -36,14 +36,12 @@ pub struct LoadPart {
 pub fn start(p: Parse) -> Load
     ensures { (text : List ℕ) → length text + 1 < 2 ^ 64 → Reads p text → result ≡ start_of (read_text load_many text) }
 {
-    let input = text_parse::finish_load(p);
-    if !input.fits {
-        return inner::bare_load(9, 1);
-    }
-    let numbers = input.numbers;
-    let number = inner::refusal_of(numbers);
-    if number != 0 {
-        return inner::bare_load(number, 1);
+    let Some(numbers) = text_parse::finish_load(p) else {
+        return inner::bare_load(Some(Refusal::Text), 1);
+    };
+    let checked = inner::check(numbers);
+    if let Err(refusal) = checked {
+        return inner::bare_load(Some(refusal), 1);
     }
     inner::load_of(numbers)
 }
@@ -56,25 +54,17 @@ pub fn left(load: Load) -> u64
 }
 
 // Writes lines as long as the buffer surely has room for another, and hands on the rest. Refuses 4.
-pub fn write_some(out: &mut [u8], load: Load) -> LoadPart
+pub fn write_some(out: &mut [u8], load: Load) -> Result<LoadPart, Refusal>
     ensures { WroteSome load out.old out.new result }
 {
     if out.len() < LINE_MAX {
-        return LoadPart {
-            refusal: 4,
-            length: 0,
-            load,
-        };
+        return Err(Refusal::ShortArray);
     }
     if load.left == 0 {
-        return LoadPart {
-            refusal: 0,
-            length: 0,
-            load,
-        };
+        return Ok(LoadPart { length: 0, load });
     }
-    if load.number != 0 {
-        return inner::write_refusal(out, load.number);
+    if let Some(refusal) = load.refusal {
+        return Ok(inner::write_refusal(out, refusal));
     }
-    inner::write_fit(out, load)
+    Ok(inner::write_fit(out, load))
 }

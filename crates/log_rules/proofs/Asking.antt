@@ -1,26 +1,30 @@
 -- What `ask` answers of a rule: its number, its window and where it fires. Assumes nothing.
-use mathlib.Core.Path.{◌≡◌, refl, sym, ap, ap₂, ◌∙◌}
+use mathlib.Core.Path.{◌≡◌, refl, sym, ap, ◌∙◌}
 use mathlib.Core.Logic.{inl, inr}
 use mathlib.Core.Bool.{Bool, true, false, not, cond}
 use mathlib.Core.List.{List}
-use Prim.Native.Nat.{ℕ, ◌+◌, ◌-◌, ◌*◌, ◌^◌, ◌≤◌, ◌<◌}
+use Prim.Native.Nat.{ℕ, ◌*◌, ◌^◌, ◌≤◌, ◌<◌}
 use native.Mathlib.Omega.{arith}
 use borrow.Author.Tests.{ltb-true, ltb-false, le-ltb, not-false}
 use lib.Dec.{ltb, eqb}
-use lib.ListN.{length, get_or, take, drop}
+use lib.ListN.{length, get_or}
 use Rattle.arrays.proofs.Lists.{bool_cases}
-use Rattle.arrays.proofs.Parts.{part_is, length-part}
-use Rattle.limits.specs.Refusal.{bad_count, bad_width}
+use Rattle.arrays.proofs.Parts.{part_within, length-part}
+use Rattle.std.specs.Prelude.{Result, Ok, Err}
+use Rattle.limits.specs.declared.Refusal.{Refusal}
+use Rattle.rule_run.specs.declared.RuleState.{RuleState}
+use Rattle.rule_run.specs.declared.inner.RecordAnswer.{RecordAnswer}
+use Rattle.rule_run.specs.Steps.{record_replied}
+use Rattle.limits.specs.Refusal.{refusal_of, bad_count, bad_width}
 use Rattle.limits.proofs.Refusals.{passed, refused_here, refused-later, or_later, inside}
 use Rattle.expr.specs.Formula.{tokens, is_formula}
 use Rattle.expr.specs.Answers.{too_short}
 use Rattle.expr.proofs.Tokens.{tokens-length}
 use Rattle.expr.proofs.Machine.{passed as formula-passed}
-use Rattle.rule_run.specs.declared.RuleAnswer.{RuleAnswer}
-use Rattle.rule_run.specs.Window.{Ran, ran, run_refusal}
-use Rattle.log_rules.specs.Rules.{Rule, rule_in, bad_formula}
+use Rattle.rule_run.specs.Window.{Reply, replied, Ran, ran, run_refusal}
+use Rattle.log_rules.specs.Rules.{Rule, Rules, rule_in, bad_formula}
 use Rattle.log_rules.specs.Firing.{rule_made}
-use Rattle.log_rules.specs.Steps.{LendsAt, rule_refusal, ran_within, past_at, fires_on}
+use Rattle.log_rules.specs.Steps.{Lends, LendsAt, rule_refusal, ran_within, past_at, fires_on}
 use Rattle.log_rules.proofs.Singles.{Sound, fed_state, fed_answer}
 
 -- `ran_within` by whether there are more tokens than places
@@ -76,18 +80,25 @@ module _ (nv w : ℕ) (r : Rule) (s n : ℕ) (records answers : List ℕ) where
       asked-answer k l = ap (λ (x : Ran). eqb (get_or x.answers k 0) 1) ran-asked ∙ fed_answer nv w r sound records n answers fits room s word k l
 
 -- ---- the rule at a place
-abbrev slice : List ℕ → ℕ → List ℕ
-slice l i = take (64 * i + 64 - 64 * i) (drop (64 * i) l)
+-- what is lent of all rules, of one of them, with m records of the same array
+pub lent_at : (nv w i m : ℕ) (rules : Rules) (n : ℕ) (records : List ℕ) → Lends nv w rules n records → i < rules.count → nv * m ≤ length records
+    → LendsAt nv w i rules.ms rules.windows rules.token_counts rules.ops rules.operands m records
+lent_at nv w i m rules n records p h fits = record {
+  some = p.some;
+  few = p.few;
+  wide = p.wide;
+  narrow = p.narrow;
+  ms-there = omega (arith, p.ms, h);
+  windows-there = omega (arith, p.windows, h);
+  counts-there = omega (arith, p.counts, h);
+  ops-there = omega (arith, p.ops, part_within 64 i rules.count h);
+  operands-there = omega (arith, p.operands, part_within 64 i rules.count h);
+  fits = fits;
+}
 
 module _ (nv w i : ℕ) (ms windows counts ops operands : List ℕ) (past n : ℕ) (records answers : List ℕ) (l : LendsAt nv w i ms windows counts ops operands n records) (room : n ≤ length answers) where
   abbrev rule : Rule
   rule = rule_in ms windows counts ops operands i
-
-  abbrev by_slices : List ℕ → List ℕ → Ran
-  by_slices o p = ran_within nv w (get_or counts i 0) o p (get_or ms i 0) (get_or windows i 0) past n records answers
-
-  same-run : by_slices (slice ops i) (slice operands i) ≡ asked nv w rule past n records answers
-  same-run = ap₂ by_slices (part_is 64 ops i) (part_is 64 operands i)
 
   vars : bad_count nv ≡ false
   vars = inside 1 6 nv l.some l.few
@@ -101,13 +112,27 @@ module _ (nv w i : ℕ) (ms windows counts ops operands : List ℕ) (past n : �
   operands-long : length rule.operands ≡ 64
   operands-long = length-part 64 operands i l.operands-there
 
-  pub at-number : (r : RuleAnswer) → r ≡ (by_slices (slice ops i) (slice operands i)).reply → r.refusal ≡ rule_refusal nv rule
-  at-number r e = ap (λ (x : RuleAnswer). x.refusal) e ∙ ap (λ (x : Ran). x.reply.refusal) same-run ∙ asked-number nv w rule past n records answers vars width ops-long operands-long l.fits room
+  -- of a rule q that is the one at place i
+  module _ (q : Rule) (same : q ≡ rule) where
+    abbrev of_rule : Rule → Ran
+    of_rule q = asked nv w q past n records answers
 
-  module _ (word : past < 2 ^ 64) (number : rule_refusal nv rule ≡ 0) where
-    pub at-state : (r : RuleAnswer) → r ≡ (by_slices (slice ops i) (slice operands i)).reply → r.state.past ≡ past_at nv w rule records past n
-    at-state r e = ap (λ (x : RuleAnswer). x.state.past) e ∙ ap (λ (x : Ran). x.reply.state.past) same-run ∙ asked-state nv w rule past n records answers vars width ops-long operands-long l.fits room number word
+    pub at-number : (r : Reply) → r ≡ (of_rule q).reply → r.refusal ≡ rule_refusal nv rule
+    at-number r e = ap (λ (x : Reply). x.refusal) e ∙ ap (λ (q : Rule). (of_rule q).reply.refusal) same ∙ asked-number nv w rule past n records answers vars width ops-long operands-long l.fits room
 
-    pub at-answer : (left : List ℕ) → left ≡ (by_slices (slice ops i) (slice operands i)).answers → (k : ℕ) → k < n → eqb (get_or left k 0) 1 ≡ fires_on nv w rule records past k
-    at-answer left e k h =
-        ap (λ (x : List ℕ). eqb (get_or x k 0) 1) (e ∙ ap (λ (x : Ran). x.answers) same-run) ∙ asked-answer nv w rule past n records answers vars width ops-long operands-long l.fits room number word k h
+    module _ (word : past < 2 ^ 64) (number : rule_refusal nv rule ≡ 0) where
+      pub at-state : (r : Reply) → r ≡ (of_rule q).reply → r.state.past ≡ past_at nv w rule records past n
+      at-state r e = ap (λ (x : Reply). x.state.past) e ∙ ap (λ (q : Rule). (of_rule q).reply.state.past) same ∙ asked-state nv w rule past n records answers vars width ops-long operands-long l.fits room number word
+
+      pub at-answer : (left : List ℕ) → left ≡ (of_rule q).answers → (k : ℕ) → k < n → eqb (get_or left k 0) 1 ≡ fires_on nv w rule records past k
+      at-answer left e k h =
+          ap (λ (x : List ℕ). eqb (get_or x k 0) 1) (e ∙ ap (λ (q : Rule). (of_rule q).answers) same) ∙ asked-answer nv w rule past n records answers vars width ops-long operands-long l.fits room number word k h
+
+-- ---- what a caller has after a call, by its `Result`
+pub replied-number : (s : RuleState) (r : Result RuleState Refusal) → refusal_of r ≡ (replied s r).refusal
+replied-number s (Ok x) = refl
+replied-number s (Err e) = refl
+
+pub record-number : (s : RuleState) (r : Result RecordAnswer Refusal) → refusal_of r ≡ (record_replied s r).refusal
+record-number s (Ok x) = refl
+record-number s (Err e) = refl

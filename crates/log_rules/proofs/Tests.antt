@@ -6,7 +6,7 @@ use mathlib.Core.List.{List}
 use Prim.Native.Nat.{ℕ, zero, suc, ◌+◌, ◌*◌, ◌/◌, ◌≤◌, ◌<◌}
 use native.Mathlib.Numerals.{add-one}
 use native.Mathlib.Omega.{arith}
-use borrow.Author.Tests.{ltb-false, le-ltb, lt-ltb, eqb-false, eq-eqb, ne_eqb}
+use borrow.Author.Tests.{ltb-false, le-ltb, lt-ltb, eqb-false, eq-eqb}
 use lib.Dec.{ltb, eqb}
 use lib.ListN.{length, get_or}
 use Rattle.arrays.proofs.Lists.{bool_cases}
@@ -82,27 +82,11 @@ module _ (a b : ℕ) where
   pub number-none : b ≡ 0 → a ≡ least_number a b
   number-none e = sym (ap (λ (t : Bool). cond t a (cond (eqb a 0) b (lesser a b))) (eq-eqb b 0 e))
 
-  module _ (nb : b ≡ 0 → ⊥) where
-    pub number-first : a ≡ 0 → b ≡ least_number a b
-    number-first e = sym (ap (λ (t : Bool). cond t a (cond (eqb a 0) b (lesser a b))) (ne_eqb b 0 nb) ∙ ap (λ (t : Bool). cond t b (lesser a b)) (eq-eqb a 0 e))
-
-    module _ (na : a ≡ 0 → ⊥) where
-      pub number-lesser : (x : ℕ) → x ≡ lesser a b → x ≡ least_number a b
-      number-lesser x e = e ∙ sym (ap (λ (t : Bool). cond t a (cond (eqb a 0) b (lesser a b))) (ne_eqb b 0 nb) ∙ ap (λ (t : Bool). cond t b (lesser a b)) (ne_eqb a 0 na))
-
   pub lesser-right : b < a → b ≡ lesser a b
   lesser-right h = sym (ap (λ (t : Bool). cond t b a) (lt-ltb b a h))
 
   pub lesser-left : a ≤ b → a ≡ lesser a b
   lesser-left h = sym (ap (λ (t : Bool). cond t b a) (le-ltb b a h))
-
--- an answer that fires offers its rank, another doesn't
-module _ (least answer rank : ℕ) where
-  pub offered_not : (answer ≡ 1 → ⊥) → least ≡ cond (eqb answer 1) (lesser least rank) least
-  offered_not n = sym (ap (λ (t : Bool). cond t (lesser least rank) least) (ne_eqb answer 1 n))
-
-  pub offered_one : answer ≡ 1 → (x : ℕ) → x ≡ lesser least rank → x ≡ cond (eqb answer 1) (lesser least rank) least
-  offered_one e x h = h ∙ sym (ap (λ (t : Bool). cond t (lesser least rank) least) (eq-eqb answer 1 e))
 
 module _ (nv : ℕ) (rules : Rules) where
   abbrev formula : ℕ → Bool

@@ -2,3 +2,4 @@
 pub mod Rules
 pub mod Firing
 pub mod Steps
+pub mod Lent

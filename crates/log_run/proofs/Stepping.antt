@@ -22,10 +22,8 @@ use Rattle.log_rules.specs.Steps.{formulas_refusal, rules_refusal, lent_refusal,
 use Rattle.log_rules.proofs.Tests.{rank_same, refusal_lent, refusal_rules, rules_formulas, rules_ranks}
 use Rattle.log_run.specs.declared.Shown.{Shown}
 use Rattle.log_run.specs.declared.Log.{Log}
-use Rattle.log_run.specs.declared.LogAnswer.{LogAnswer}
-use Rattle.log_run.specs.declared.inner.Took.{Took}
-use Rattle.log_run.specs.Step.{capped, noted, rank_on, windows_on, stepped, log_after, logged}
-use Rattle.log_run.specs.Steps.{open_log, Takes, took_says, noted_over}
+use Rattle.log_run.specs.Step.{Reply, capped, noted, rank_on, windows_on, stepped, log_after, logged}
+use Rattle.log_run.specs.Steps.{Took, open_log, Takes, took_says, noted_over}
 
 -- ---- what is shown
 pub capped-low : (n : ℕ) → n < 2 ^ 64 → capped n ≡ n
@@ -74,22 +72,6 @@ noted_one rank s t e = e
 pub noted-start : (f : ℕ → ℕ) (s : Shown) → s ≡ noted_over f s 0
 unfolding noted_over
 noted-start f s = refl
-
--- ---- whether there are records to take
-pub feeds_shut : (b x : Bool) → not b ≡ true → false ≡ (b && x)
-feeds_shut true x e = absurd (true_not_false (sym e))
-feeds_shut false x e = refl
-
-pub feeds_none : (b x : Bool) (n : ℕ) → n ≡ 0 → false ≡ (b && (ltb 0 n && x))
-feeds_none b x n e = either b ∙ ap (λ (t : Bool). b && (t && x)) (sym (le-ltb 0 n (omega (arith, e))))
-  where
-    either : (b : Bool) → false ≡ (b && false)
-    either true = refl
-    either false = refl
-
-pub feeds_ranks : (b x y : Bool) (n : ℕ) → not b ≡ false → (n ≡ 0 → ⊥) → y ≡ x → not y ≡ (b && (ltb 0 n && not x))
-feeds_ranks true x y n e h q = ap not q ∙ ap (λ (t : Bool). t && not x) (sym (lt-ltb 0 n (omega (arith, h))))
-feeds_ranks false x y n e h q = absurd (true_not_false e)
 
 -- ---- the eight windows
 eight : (f : ℕ → ℕ) (i : ℕ) → i < 8 → get_or (map f (count_up 0 8)) i 0 ≡ f i
@@ -200,7 +182,7 @@ module _ (nv w : ℕ) (rules : Rules) where
 
 -- ---- the answer
 -- what a run of n records answers where only the rules themselves are still to be tested
-abbrev pub ruled : ℕ → ℕ → Rules → Log → ℕ → List ℕ → LogAnswer
+abbrev pub ruled : ℕ → ℕ → Rules → Log → ℕ → List ℕ → Reply
 ruled nv w rules l n records = record {
   refusal = formulas_refusal nv rules rules.count;
   log = unless_refused (formulas_refusal nv rules rules.count) (log_after nv w rules records l n) l;
@@ -210,12 +192,12 @@ module _ (nv w : ℕ) (rules : Rules) (l : Log) (n : ℕ) (records : List ℕ) w
   abbrev number : ℕ
   number = formulas_refusal nv rules rules.count
 
-  pub ruled-refused : (x : ℕ) → x ≡ number → (x ≡ 0 → ⊥) → ◌≡◌ {A = LogAnswer} (record { refusal = x; log = l }) (ruled nv w rules l n records)
+  pub ruled-refused : (x : ℕ) → x ≡ number → (x ≡ 0 → ⊥) → ◌≡◌ {A = Reply} (record { refusal = x; log = l }) (ruled nv w rules l n records)
   ruled-refused x e h =
       let same : l ≡ unless_refused number (log_after nv w rules records l n) l = sym (unless_refused_lem number (log_after nv w rules records l n) l (omega (arith, e, h))) in
       λ i. record { refusal = e i; log = same i }
 
-  pub ruled-ran : (after : Log) → number ≡ 0 → after ≡ log_after nv w rules records l n → ◌≡◌ {A = LogAnswer} (record { refusal = 0; log = after }) (ruled nv w rules l n records)
+  pub ruled-ran : (after : Log) → number ≡ 0 → after ≡ log_after nv w rules records l n → ◌≡◌ {A = Reply} (record { refusal = 0; log = after }) (ruled nv w rules l n records)
   ruled-ran after e h =
       let same : after ≡ unless_refused number (log_after nv w rules records l n) l = h ∙ sym (unless_not number (log_after nv w rules records l n) l e) in
       λ i. record { refusal = sym e i; log = same i }
@@ -245,12 +227,12 @@ lends_part nv w rules n records a b h l =
 -- ---- the call
 module _ (nv w : ℕ) (rules : Rules) (l : Log) (n : ℕ) (records : List ℕ) where
   -- a number that applies, and the log as it was
-  logged-refused : (x : ℕ) → x ≡ log_refusal nv w rules n records → (x ≡ 0 → ⊥) → ◌≡◌ {A = LogAnswer} (record { refusal = x; log = l }) (logged nv w rules l n records)
+  logged-refused : (x : ℕ) → x ≡ log_refusal nv w rules n records → (x ≡ 0 → ⊥) → ◌≡◌ {A = Reply} (record { refusal = x; log = l }) (logged nv w rules l n records)
   logged-refused x e h =
       let same : l ≡ unless_refused (log_refusal nv w rules n records) (log_after nv w rules records l n) l = sym (unless_refused_lem (log_refusal nv w rules n records) (log_after nv w rules records l n) l (omega (arith, e, h))) in
       λ i. record { refusal = e i; log = same i }
 
-  pub logged_lent : (x : ℕ) → x ≡ lent_refusal nv w rules n records → (x ≡ 0 → ⊥) → ◌≡◌ {A = LogAnswer} (record { refusal = x; log = l }) (logged nv w rules l n records)
+  pub logged_lent : (x : ℕ) → x ≡ lent_refusal nv w rules n records → (x ≡ 0 → ⊥) → ◌≡◌ {A = Reply} (record { refusal = x; log = l }) (logged nv w rules l n records)
   logged_lent x e h = logged-refused x (e ∙ sym (refusal_lent nv w rules n records (omega (arith, e, h)))) h
 
   module _ (lent : lent_refusal nv w rules n records ≡ 0) where
@@ -273,7 +255,7 @@ module _ (nv w : ℕ) (rules : Rules) (l : Log) (n : ℕ) (records : List ℕ) w
         nothing (inr f) y = omega (arith, ltb-false 0 n f)
 
     pub logged_tested : (l.begun && (ltb 0 n && not (bad_ranks rules.count rules.ranks))) ≡ false → (x : ℕ) → x ≡ rules_refusal nv rules
-        → ◌≡◌ {A = LogAnswer} (record { refusal = x; log = l }) (logged nv w rules l n records)
+        → ◌≡◌ {A = Reply} (record { refusal = x; log = l }) (logged nv w rules l n records)
     logged_tested e x h = elim (eq-zero-or-pos x) [
       | inr p ↦ logged-refused x (h ∙ sym (refusal_rules nv w rules n records lent)) (λ z. omega (arith, p, z))
       | inl z ↦
@@ -292,10 +274,10 @@ module _ (l : Log) (after : List ℕ) (x : Took) where
   abbrev whole : Log
   whole = record { windows = after; shown = x.shown; begun = l.begun }
 
-  pub took_refused : (x.refusal ≡ 0 → ⊥) → ◌≡◌ {A = LogAnswer} (record { refusal = x.refusal; log = l }) (took_says l after x)
+  pub took_refused : (x.refusal ≡ 0 → ⊥) → ◌≡◌ {A = Reply} (record { refusal = x.refusal; log = l }) (took_says l after x)
   took_refused h = let same = sym (unless_refused_lem x.refusal whole l (omega (arith, h))) in λ i. record { refusal = x.refusal; log = same i }
 
-  pub took_whole : x.refusal ≡ 0 → ◌≡◌ {A = LogAnswer} (record { refusal = 0; log = record { windows = after; shown = x.shown; begun = l.begun } }) (took_says l after x)
+  pub took_whole : x.refusal ≡ 0 → ◌≡◌ {A = Reply} (record { refusal = 0; log = record { windows = after; shown = x.shown; begun = l.begun } }) (took_says l after x)
   took_whole z = let same = sym (unless_not x.refusal whole l z) in λ i. record { refusal = sym z i; log = same i }
 
   pub took_ruled : (nv w : ℕ) (rules : Rules) (n : ℕ) (records : List ℕ) → l.begun ≡ true → Takes nv w rules records n l.windows l.shown after x → took_says l after x ≡ ruled nv w rules l n records
@@ -307,7 +289,7 @@ module _ (l : Log) (after : List ℕ) (x : Took) where
   ]
 
 -- nothing was
-pub took_none : (l : Log) (number : ℕ) → ◌≡◌ {A = LogAnswer} (record { refusal = number; log = l }) (took_says l l.windows (record { shown = l.shown; refusal = number }))
+pub took_none : (l : Log) (number : ℕ) → ◌≡◌ {A = Reply} (record { refusal = number; log = l }) (took_says l l.windows (record { shown = l.shown; refusal = number }))
 took_none l number = elim (eq-zero-or-pos number) [
   | inr p ↦ took_refused l l.windows (record { shown = l.shown; refusal = number }) (λ z. omega (arith, p, z))
   | inl z ↦ let same = sym (unless_not number l l z) in λ i. record { refusal = number; log = same i }

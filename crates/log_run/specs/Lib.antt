@@ -1,5 +1,6 @@
 -- What the contracts of this crate, and the definitions above it, cite.
 pub mod Step
 pub mod Steps
+pub mod Lent
 pub mod Facts
 pub mod Cases

@@ -1,15 +1,15 @@
 -- The closing log, record by record, by what the windowed rule promises of each record. Assumes nothing.
-use Rattle.std.specs.Prelude.{Bool, true, false, not, ◌&&◌, List, [], ◌∷◌, map, ltb, eqb, get_or}
+use Rattle.std.specs.Prelude.{Result, Ok, Err, Bool, true, false, not, ◌&&◌, List, [], ◌∷◌, map, ltb, eqb, get_or}
 use Rattle.std.proofs.Math.Bool.{cond}
 use Prim.Native.Nat.{ℕ, zero, suc, ◌-◌, ◌^◌}
 use Rattle.arrays.specs.Lists.{count_up}
 use Rattle.arrays.specs.Parts.{part_at}
-use Rattle.limits.specs.Refusal.{unless_refused}
+use Rattle.limits.specs.declared.Refusal.{Refusal}
+use Rattle.limits.specs.Refusal.{number_of, unless_refused}
 use Rattle.log_rules.specs.Rules.{Rules, rule_at, log_refusal}
 use Rattle.log_rules.specs.Firing.{no_rank, fires, seen, least_rank}
 use Rattle.log_run.specs.declared.Shown.{Shown}
 use Rattle.log_run.specs.declared.Log.{Log}
-use Rattle.log_run.specs.declared.LogAnswer.{LogAnswer}
 
 -- ---- what is shown
 -- 02, 2.7: number and count stay at 2^64 - 1 once there
@@ -34,6 +34,16 @@ module _ (rank : ℕ) (s : Shown) where
     rank = cond (fired && unclosed) rank s.rank;
     later = cond (fired && not unclosed) (capped (suc s.later)) s.later;
   }
+
+-- ---- what a caller has after a call
+-- the log, and the number of the refusal, 0 for none; beside a refusal the log that was handed in
+pub record Reply : Type 0 where
+  pub log : Log
+  pub refusal : ℕ
+
+abbrev pub replied : Log → Result Log Refusal → Reply
+replied l (Ok m) = record { log = m; refusal = 0 }
+replied l (Err r) = record { log = l; refusal = number_of r }
 
 -- ---- one record
 module _ (nv w : ℕ) (rules : Rules) where
@@ -62,7 +72,7 @@ module _ (nv w : ℕ) (rules : Rules) where
   log_after records l (suc n) = stepped (part_at nv records n) (log_after records l n)
 
   -- what `run_log` answers: beside a refusal the log as it was
-  abbrev pub logged : Log → ℕ → List ℕ → LogAnswer
+  abbrev pub logged : Log → ℕ → List ℕ → Reply
   logged l n records = record {
     refusal = log_refusal nv w rules n records;
     log = unless_refused (log_refusal nv w rules n records) (log_after records l n) l;

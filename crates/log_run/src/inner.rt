@@ -1,25 +1,22 @@
 // The steps of a run, with what was tested, and the whole call.
 ghost use Rattle.std.specs.Prelude.{◌≡◌, not, ◌&&◌, ℕ, suc, ◌≤◌, ◌<◌, ltb, length, get_or};
-ghost use Rattle.log_rules.specs.Rules.{rules_in, bad_ranks};
+ghost use Rattle.log_rules.specs.Rules.{bad_ranks};
 ghost use Rattle.log_rules.specs.Firing.{no_rank};
-ghost use Rattle.log_rules.specs.Steps.{Lends, Ranked};
-ghost use Rattle.log_run.specs.Step.{capped, noted, logged};
-ghost use Rattle.log_run.specs.Steps.{Takes, took_says, noted_over};
+ghost use Rattle.log_rules.specs.Lent.{Fit};
+ghost use Rattle.log_run.specs.Step.{capped, noted};
+ghost use Rattle.log_run.specs.Steps.{took_of, took_says, noted_over};
+ghost use Rattle.log_run.specs.Lent.{logged_by, TakesLent};
 
 use crate::Shown;
+use limits::Refusal;
+use log_rules::LentRules;
 use log_rules::inner::NO_RANK;
+use rule_run::Records;
 
 // How many records go at once where there are few of them, and where there are many.
 const FEW: usize = 16;
 
 const MANY: usize = 256;
-
-// What is shown after some records, and the least number that refuses them, 0 for none; beside one what is shown may be anything.
-#[derive(Clone, Copy)]
-pub struct Took {
-    pub shown: Shown,
-    pub refusal: u32,
-}
 
 // ---- what is shown
 
@@ -27,7 +24,7 @@ pub struct Took {
 fn one_more(n: u64) -> u64
     ensures { result ≡ capped (suc n) }
 {
-    if n < 0xffff_ffff_ffff_ffff { n + 1 } else { n }
+    n.saturating_add(1)
 }
 
 // One record more, on which a rank is the least that fires.
@@ -66,10 +63,8 @@ fn note_all(fired: &[u8], shown: Shown, n: usize) -> Shown
     ensures { result ≡ noted_over (λ (k : ℕ). get_or fired.now k 0) shown n }
 {
     let mut s = shown;
-    let mut k: usize = 0;
-    while k < n {
+    for k in 0..n {
         s = note(s, fired[k]);
-        k += 1;
     }
     s
 }
@@ -81,13 +76,7 @@ pub fn feeds(begun: bool, count: usize, ranks: &[u32], n: usize) -> bool
     requires { count ≤ length ranks.now }
     ensures { result ≡ (begun && (ltb 0 n && not (bad_ranks count ranks.now))) }
 {
-    if !begun {
-        return false;
-    }
-    if n == 0 {
-        return false;
-    }
-    !log_rules::inner::bad_ranks(count, ranks)
+    begun && n != 0 && !log_rules::inner::bad_ranks(count, ranks)
 }
 
 // n records of an open sounding, with a place for each in `fired` and `answers`; `seen` are the windows.
@@ -96,125 +85,31 @@ fn run_over(
     answers: &mut [u8],
     seen: &mut [u64],
     shown: Shown,
-    count: usize,
-    ranks: &[u32],
-    ms: &[u32],
-    windows: &[u32],
-    token_counts: &[u32],
-    ops: &[u8],
-    operands: &[u64],
-    nv: u32,
-    w: u32,
-    n: usize,
-    records: &[u64],
-) -> Took
-    requires lends { Lends nv w (rules_in count ranks.now ms.now windows.now token_counts.now ops.now operands.now) n records.now × (Ranked (rules_in count ranks.now ms.now windows.now token_counts.now ops.now operands.now) × (length seen.old ≡ 8)) }
-    requires le_n { (1 ≤ n) × ((n ≤ length answers.old) × ((n ≤ length fired.old) × ((k : ℕ) → k < n → get_or fired.old k 0 ≡ no_rank))) }
-    ensures { Takes nv w (rules_in count ranks.now ms.now windows.now token_counts.now ops.now operands.now) records.now n seen.old shown seen.new result }
+    rules: &LentRules,
+    records: &Records,
+) -> Result<Shown, Refusal>
+    requires lends { Fit rules.now records.now seen.old }
+    requires le_n { (1 ≤ records.now.n) × ((records.now.n ≤ length answers.old) × ((records.now.n ≤ length fired.old) × ((k : ℕ) → k < records.now.n → get_or fired.old k 0 ≡ no_rank))) }
+    ensures { TakesLent rules.now records.now seen.old shown seen.new (took_of shown result) }
 {
-    let refusal = log_rules::inner::feed_rules(
-        fired,
-        answers,
-        seen,
-        count,
-        ranks,
-        ms,
-        windows,
-        token_counts,
-        ops,
-        operands,
-        nv,
-        w,
-        n,
-        records,
-    );
-    let after = note_all(fired, shown, n);
-    Took {
-        shown: after,
-        refusal,
-    }
+    log_rules::inner::feed_rules(fired, answers, seen, rules, records)?;
+    Ok(note_all(fired, shown, records.n))
 }
 
-// At most sixteen records.
-fn run_few(
+// At most as many records as there is place for in the two buffers.
+fn run_within<const PLACES: usize>(
     seen: &mut [u64],
     shown: Shown,
-    count: usize,
-    ranks: &[u32],
-    ms: &[u32],
-    windows: &[u32],
-    token_counts: &[u32],
-    ops: &[u8],
-    operands: &[u64],
-    nv: u32,
-    w: u32,
-    n: usize,
-    records: &[u64],
-) -> Took
-    requires lends { Lends nv w (rules_in count ranks.now ms.now windows.now token_counts.now ops.now operands.now) n records.now × (Ranked (rules_in count ranks.now ms.now windows.now token_counts.now ops.now operands.now) × (length seen.old ≡ 8)) }
-    requires le_n { (1 ≤ n) × (n ≤ 16) }
-    ensures { Takes nv w (rules_in count ranks.now ms.now windows.now token_counts.now ops.now operands.now) records.now n seen.old shown seen.new result }
+    rules: &LentRules,
+    records: &Records,
+) -> Result<Shown, Refusal>
+    requires lends { Fit rules.now records.now seen.old }
+    requires le_n { (1 ≤ records.now.n) × ((records.now.n ≤ PLACES) × (PLACES ≤ 256)) }
+    ensures { TakesLent rules.now records.now seen.old shown seen.new (took_of shown result) }
 {
-    let mut fired = [NO_RANK; FEW];
-    let mut answers = [0u8; FEW];
-    run_over(
-        &mut fired,
-        &mut answers,
-        seen,
-        shown,
-        count,
-        ranks,
-        ms,
-        windows,
-        token_counts,
-        ops,
-        operands,
-        nv,
-        w,
-        n,
-        records,
-    )
-}
-
-// At most 256.
-fn run_many(
-    seen: &mut [u64],
-    shown: Shown,
-    count: usize,
-    ranks: &[u32],
-    ms: &[u32],
-    windows: &[u32],
-    token_counts: &[u32],
-    ops: &[u8],
-    operands: &[u64],
-    nv: u32,
-    w: u32,
-    n: usize,
-    records: &[u64],
-) -> Took
-    requires lends { Lends nv w (rules_in count ranks.now ms.now windows.now token_counts.now ops.now operands.now) n records.now × (Ranked (rules_in count ranks.now ms.now windows.now token_counts.now ops.now operands.now) × (length seen.old ≡ 8)) }
-    requires le_n { (1 ≤ n) × (n ≤ 256) }
-    ensures { Takes nv w (rules_in count ranks.now ms.now windows.now token_counts.now ops.now operands.now) records.now n seen.old shown seen.new result }
-{
-    let mut fired = [NO_RANK; MANY];
-    let mut answers = [0u8; MANY];
-    run_over(
-        &mut fired,
-        &mut answers,
-        seen,
-        shown,
-        count,
-        ranks,
-        ms,
-        windows,
-        token_counts,
-        ops,
-        operands,
-        nv,
-        w,
-        n,
-        records,
-    )
+    let mut fired = [NO_RANK; PLACES];
+    let mut answers = [0u8; PLACES];
+    run_over(&mut fired, &mut answers, seen, shown, rules, records)
 }
 
 // How many of the records that are left go at once.
@@ -222,205 +117,87 @@ fn at_once(left: usize) -> usize
     requires { 1 ≤ left }
     ensures { (1 ≤ result) × ((result ≤ left) × (result ≤ 256)) }
 {
-    if left < MANY { left } else { MANY }
+    left.min(MANY)
 }
 
 // All records, part after part, as long as no rule is refused.
 fn run_parts(
     seen: &mut [u64],
     shown: Shown,
-    count: usize,
-    ranks: &[u32],
-    ms: &[u32],
-    windows: &[u32],
-    token_counts: &[u32],
-    ops: &[u8],
-    operands: &[u64],
-    nv: u32,
-    w: u32,
-    n: usize,
-    records: &[u64],
-) -> Took
-    requires lends { Lends nv w (rules_in count ranks.now ms.now windows.now token_counts.now ops.now operands.now) n records.now × (Ranked (rules_in count ranks.now ms.now windows.now token_counts.now ops.now operands.now) × (length seen.old ≡ 8)) }
-    requires le_n { 1 ≤ n }
-    ensures { Takes nv w (rules_in count ranks.now ms.now windows.now token_counts.now ops.now operands.now) records.now n seen.old shown seen.new result }
+    rules: &LentRules,
+    records: &Records,
+) -> Result<Shown, Refusal>
+    requires lends { Fit rules.now records.now seen.old }
+    requires le_n { 1 ≤ records.now.n }
+    ensures { TakesLent rules.now records.now seen.old shown seen.new (took_of shown result) }
 {
-    let words = nv as usize;
+    let n = records.n;
+    let nv = records.nv as usize;
+    let words = records.words;
     let mut now = shown;
     let mut at: usize = 0;
+    // no count: a step is as long as the part
     while at < n {
         let size = at_once(n - at);
-        let from = words * at;
-        let x = run_many(
-            seen,
-            now,
-            count,
-            ranks,
-            ms,
-            windows,
-            token_counts,
-            ops,
-            operands,
-            nv,
-            w,
-            size,
-            &records[from..from + words * size],
-        );
-        if x.refusal != 0 {
-            return x;
-        }
-        now = x.shown;
+        let from = nv * at;
+        let part = Records {
+            nv: records.nv,
+            w: records.w,
+            n: size,
+            words: &words[from..from + nv * size],
+        };
+        now = run_within::<MANY>(seen, now, rules, &part)?;
         at += size;
     }
-    Took {
-        shown: now,
-        refusal: 0,
-    }
+    Ok(now)
 }
 
 // The same, with small buffers where there are few records.
 fn run_all(
     seen: &mut [u64],
     shown: Shown,
-    count: usize,
-    ranks: &[u32],
-    ms: &[u32],
-    windows: &[u32],
-    token_counts: &[u32],
-    ops: &[u8],
-    operands: &[u64],
-    nv: u32,
-    w: u32,
-    n: usize,
-    records: &[u64],
-) -> Took
-    requires lends { Lends nv w (rules_in count ranks.now ms.now windows.now token_counts.now ops.now operands.now) n records.now × (Ranked (rules_in count ranks.now ms.now windows.now token_counts.now ops.now operands.now) × (length seen.old ≡ 8)) }
-    requires le_n { 1 ≤ n }
-    ensures { Takes nv w (rules_in count ranks.now ms.now windows.now token_counts.now ops.now operands.now) records.now n seen.old shown seen.new result }
+    rules: &LentRules,
+    records: &Records,
+) -> Result<Shown, Refusal>
+    requires lends { Fit rules.now records.now seen.old }
+    requires le_n { 1 ≤ records.now.n }
+    ensures { TakesLent rules.now records.now seen.old shown seen.new (took_of shown result) }
 {
-    if n <= FEW {
-        return run_few(
-            seen,
-            shown,
-            count,
-            ranks,
-            ms,
-            windows,
-            token_counts,
-            ops,
-            operands,
-            nv,
-            w,
-            n,
-            records,
-        );
+    if records.n <= FEW {
+        return run_within::<FEW>(seen, shown, rules, records);
     }
-    run_parts(
-        seen,
-        shown,
-        count,
-        ranks,
-        ms,
-        windows,
-        token_counts,
-        ops,
-        operands,
-        nv,
-        w,
-        n,
-        records,
-    )
+    run_parts(seen, shown, rules, records)
 }
 
 // One record, with no place for answers.
 fn run_one(
     seen: &mut [u64],
     shown: Shown,
-    count: usize,
-    ranks: &[u32],
-    ms: &[u32],
-    windows: &[u32],
-    token_counts: &[u32],
-    ops: &[u8],
-    operands: &[u64],
-    nv: u32,
-    w: u32,
-    records: &[u64],
-) -> Took
-    requires { Lends nv w (rules_in count ranks.now ms.now windows.now token_counts.now ops.now operands.now) 1 records.now × (Ranked (rules_in count ranks.now ms.now windows.now token_counts.now ops.now operands.now) × (length seen.old ≡ 8)) }
-    ensures { Takes nv w (rules_in count ranks.now ms.now windows.now token_counts.now ops.now operands.now) records.now 1 seen.old shown seen.new result }
+    rules: &LentRules,
+    records: &Records,
+) -> Result<Shown, Refusal>
+    requires { Fit rules.now records.now seen.old × (records.now.n ≡ 1) }
+    ensures { TakesLent rules.now records.now seen.old shown seen.new (took_of shown result) }
 {
-    let x = log_rules::inner::feed_record(
-        seen,
-        count,
-        ranks,
-        ms,
-        windows,
-        token_counts,
-        ops,
-        operands,
-        nv,
-        w,
-        records,
-    );
-    let after = note(shown, x.rank);
-    Took {
-        shown: after,
-        refusal: x.refusal,
-    }
+    let rank = log_rules::inner::feed_record(seen, rules, records.nv, records.w, records.words)?;
+    Ok(note(shown, rank))
 }
 
 // All records of an open sounding, by how many there are.
 fn run(
     seen: &mut [u64],
     shown: Shown,
-    count: usize,
-    ranks: &[u32],
-    ms: &[u32],
-    windows: &[u32],
-    token_counts: &[u32],
-    ops: &[u8],
-    operands: &[u64],
-    nv: u32,
-    w: u32,
-    n: usize,
-    records: &[u64],
-) -> Took
-    requires lends { Lends nv w (rules_in count ranks.now ms.now windows.now token_counts.now ops.now operands.now) n records.now × (Ranked (rules_in count ranks.now ms.now windows.now token_counts.now ops.now operands.now) × (length seen.old ≡ 8)) }
-    requires le_n { 1 ≤ n }
-    ensures { Takes nv w (rules_in count ranks.now ms.now windows.now token_counts.now ops.now operands.now) records.now n seen.old shown seen.new result }
+    rules: &LentRules,
+    records: &Records,
+) -> Result<Shown, Refusal>
+    requires lends { Fit rules.now records.now seen.old }
+    requires le_n { 1 ≤ records.now.n }
+    ensures { TakesLent rules.now records.now seen.old shown seen.new (took_of shown result) }
 {
-    if n == 1 {
-        return run_one(
-            seen,
-            shown,
-            count,
-            ranks,
-            ms,
-            windows,
-            token_counts,
-            ops,
-            operands,
-            nv,
-            w,
-            records,
-        );
+    if records.n == 1 {
+        return run_one(seen, shown, rules, records);
     }
-    run_all(
-        seen,
-        shown,
-        count,
-        ranks,
-        ms,
-        windows,
-        token_counts,
-        ops,
-        operands,
-        nv,
-        w,
-        n,
-        records,
-    )
+    run_all(seen, shown, rules, records)
 }
 
 // The whole call over the parts of a log. `seen`, its windows, is changed in place; where the call is refused it may hold anything.
@@ -428,69 +205,22 @@ pub fn take(
     seen: &mut [u64],
     begun: bool,
     shown: Shown,
-    count: usize,
-    ranks: &[u32],
-    ms: &[u32],
-    windows: &[u32],
-    token_counts: &[u32],
-    ops: &[u8],
-    operands: &[u64],
-    nv: u32,
-    w: u32,
-    n: usize,
-    records: &[u64],
-) -> Took
+    rules: &LentRules,
+    records: &Records,
+) -> Result<Shown, Refusal>
     requires { length seen.old ≡ 8 }
-    ensures { took_says (record { windows = seen.old; shown = shown; begun = begun }) seen.new result ≡ logged nv w (rules_in count ranks.now ms.now windows.now token_counts.now ops.now operands.now) (record { windows = seen.old; shown = shown; begun = begun }) n records.now }
+    ensures { took_says (record { windows = seen.old; shown = shown; begun = begun }) seen.new (took_of shown result) ≡ logged_by rules.now (record { windows = seen.old; shown = shown; begun = begun }) records.now }
 {
-    let refusal = log_rules::inner::lent_refusal(
-        count,
-        ranks,
-        ms,
-        windows,
-        token_counts,
-        ops,
-        operands,
-        nv,
-        w,
-        n,
-        records,
-    );
-    if refusal != 0 {
-        return Took { shown, refusal };
+    // a match: with `?` the proof of its return did not close
+    match log_rules::inner::check(rules, records) {
+        Ok(_) => {}
+        Err(refusal) => return Err(refusal),
     }
-    if feeds(begun, count, ranks, n) {
-        return run(
-            seen,
-            shown,
-            count,
-            ranks,
-            ms,
-            windows,
-            token_counts,
-            ops,
-            operands,
-            nv,
-            w,
-            n,
-            records,
-        );
+    if feeds(begun, rules.count, rules.ranks, records.n) {
+        return run(seen, shown, rules, records);
     }
-    let number = log_rules::inner::rules_refusal(
-        count,
-        ranks,
-        ms,
-        windows,
-        token_counts,
-        ops,
-        operands,
-        nv,
-        w,
-        n,
-        records,
-    );
-    Took {
-        shown,
-        refusal: number,
+    match log_rules::inner::check_rules(rules, records) {
+        Ok(_) => Ok(shown),
+        Err(refusal) => Err(refusal),
     }
 }

@@ -1,8 +1,6 @@
 -- The row of a formula at the sixteen points. Assumes nothing.
 use Rattle.std.specs.Prelude.{List, map, ℕ}
-use Rattle.limits.specs.Refusal.{refuse, bad_count, bad_width}
-use Rattle.row_gates.specs.declared.RowAnswer.{RowAnswer}
-use Rattle.row_gates.specs.Gates.{row_or}
+use Rattle.limits.specs.Refusal.{refuse, Outcome, outcome, bad_count, bad_width}
 use Rattle.expr.specs.declared.Token.{Token}
 use Rattle.expr.specs.Formula.{tokens}
 use Rattle.expr.specs.Answers.{too_short, not_formula}
@@ -23,6 +21,6 @@ probe_refusal nv w count ops operands =
     (refuse (not_formula nv count ops operands) 6 0)))
 
 -- what `probe` answers
-abbrev pub probed : ℕ → ℕ → List Point → ℕ → List ℕ → List ℕ → RowAnswer
+abbrev pub probed : ℕ → ℕ → List Point → ℕ → List ℕ → List ℕ → Outcome (List ℕ)
 probed nv w points count ops operands =
-    row_or (probe_refusal nv w count ops operands) (row_of w points (tokens count ops operands))
+    outcome (probe_refusal nv w count ops operands) (row_of w points (tokens count ops operands))

@@ -2,12 +2,13 @@
 #![tactic(auto)]
 
 ghost use Rattle.std.specs.Prelude.{◌≡◌, true, ◌≤◌};
+ghost use Rattle.limits.specs.Refusal.{says};
 ghost use Rattle.expr.specs.Formula.{tokens, is_formula};
 ghost use Rattle.expr_eval.specs.Value.{value_of};
 ghost use Rattle.probe.specs.FormulaRow.{row_of, probed};
 
+use limits::Refusal;
 use probe_points::{POINTS, Point};
-use row_gates::RowAnswer;
 
 // The row of a formula: its value at each of the sixteen points. Refuses 1, 2, 4, 6.
 pub fn probe(
@@ -17,24 +18,22 @@ pub fn probe(
     token_count: usize,
     ops: &[u8],
     operands: &[u64],
-) -> RowAnswer
-    ensures { result ≡ probed nv w points token_count ops.now operands.now }
+) -> Result<[u64; 16], Refusal>
+    ensures { says result ≡ probed nv w points token_count ops.now operands.now }
 {
     if limits::inner::bad_count(nv) {
-        return row_gates::inner::refused_row(1);
+        return Err(Refusal::VariableCount);
     }
     if limits::inner::bad_width(w) {
-        return row_gates::inner::refused_row(2);
+        return Err(Refusal::Width);
     }
     if expr::inner::too_short(token_count, ops, operands) {
-        return row_gates::inner::refused_row(4);
+        return Err(Refusal::ShortArray);
     }
-    if expr::is_formula(nv, token_count, ops, operands) {
-        let row = row_at_points(w, points, token_count, ops, operands);
-        RowAnswer { refusal: 0, row }
-    } else {
-        row_gates::inner::refused_row(6)
+    if !expr::is_formula(nv, token_count, ops, operands) {
+        return Err(Refusal::Formula);
     }
+    Ok(row_at_points(w, points, token_count, ops, operands))
 }
 
 // The value of a formula at one point. It passed the test with at most six variables, and a point has six words.
@@ -58,11 +57,8 @@ fn row_at_points(
     ensures { result ≡ row_of w points (tokens count ops.now operands.now) }
 {
     let mut row = [0u64; POINTS];
-    let mut k: usize = 0;
-    while k < POINTS {
-        let p = points[k];
-        row[k] = value_at(w, p, count, ops, operands);
-        k += 1;
+    for k in 0..POINTS {
+        row[k] = value_at(w, points[k], count, ops, operands);
     }
     row
 }

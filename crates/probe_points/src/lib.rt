@@ -2,7 +2,10 @@
 #![tactic(auto)]
 
 ghost use Rattle.std.specs.Prelude.{◌≡◌, ◌≤◌};
+ghost use Rattle.limits.specs.Refusal.{number_of};
 ghost use Rattle.probe_points.specs.Points.{drawn, zero_points, probe_points, made_points, DrawsPoint};
+
+use limits::Refusal;
 
 // How many points there are, and the words of each (N_PROBES, MAX_VARS).
 pub const POINTS: usize = 16;
@@ -25,7 +28,7 @@ pub struct Point {
     pub words: [u64; 6],
 }
 
-// Sixteen points, or zeros beside the refusal.
+// Sixteen points, or zeros: by value beside the refusal, the form that docs/SPECIFICATION.md 19 asks for.
 #[derive(Clone, Copy)]
 pub struct Points {
     pub refusal: u32,
@@ -57,21 +60,24 @@ pub fn make_probe_points(nv: u32, w: u32) -> Points
     ensures { result ≡ made_points nv w }
 {
     if limits::inner::bad_count(nv) {
-        return refused_points(1);
+        return refused_points(Refusal::VariableCount);
     }
     if limits::inner::bad_width(w) {
-        return refused_points(2);
+        return refused_points(Refusal::Width);
     }
     let points = draw_points(nv as usize, w);
     Points { refusal: 0, points }
 }
 
 // Zeros beside a refusal.
-fn refused_points(refusal: u32) -> Points
-    ensures { result ≡ record { refusal = refusal; points = zero_points } }
+fn refused_points(refusal: Refusal) -> Points
+    ensures { result ≡ record { refusal = number_of refusal; points = zero_points } }
 {
     let points = [Point { words: [0; 6] }; 16];
-    Points { refusal, points }
+    Points {
+        refusal: u32::from(refusal),
+        points,
+    }
 }
 
 // All sixteen, point after point.
@@ -81,13 +87,10 @@ fn draw_points(nv: usize, w: u32) -> [Point; 16]
 {
     let mut points = [Point { words: [0; 6] }; 16];
     let mut state = PROBE_SEED;
-    let mut k: usize = 0;
-    while k < POINTS {
+    for k in 0..POINTS {
         let d = draw_point(nv, w, state);
-        let p = d.point;
-        points[k] = p;
+        points[k] = d.point;
         state = d.state;
-        k += 1;
     }
     points
 }
@@ -99,12 +102,10 @@ fn draw_point(nv: usize, w: u32, state: u64) -> DrawnPoint
 {
     let mut words = [0u64; 6];
     let mut s = state;
-    let mut i: usize = 0;
-    while i < nv {
+    for i in 0..nv {
         let d = splitmix64(s);
         s = d.state;
         words[i] = arith::reduce(d.word, w);
-        i += 1;
     }
     DrawnPoint {
         state: s,

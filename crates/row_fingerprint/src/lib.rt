@@ -9,10 +9,8 @@ pub fn fingerprint(row: [u64; 16]) -> u64
     ensures { result ≡ fingerprint_of row }
 {
     let mut h: u64 = 0xcbf2_9ce4_8422_2325;
-    let mut i: usize = 0;
-    while i < 16 {
+    for i in 0..16 {
         h = mix_word(h, row[i]);
-        i += 1;
     }
     finish(h)
 }

@@ -1,13 +1,15 @@
 -- Laws of rows: a gate place by place, the test of equality, and 02, 2.3. Assumes nothing.
 use mathlib.Core.Path.{◌≡◌, refl, sym, ap, ap₂, ◌∙◌, subst}
-use mathlib.Core.Bool.{Bool, true, false, cond}
+use mathlib.Core.Bool.{Bool, true, false, ◌&&◌, cond}
 use mathlib.Core.List.{List, [], ◌∷◌, zip_with}
 use Prim.Native.Nat.{ℕ, zero, suc, ◌%◌, ◌^◌, ◌<◌}
 use native.Mathlib.Decide.{ℕ_discrete}
 use native.Mathlib.Nat.{mod-eq_of_lt}
 use native.Mathlib.Omega.{arith}
 use borrow.Author.Tests.{eq-eqb, ne_eqb}
+use lib.Dec.{eqb}
 use lib.ListN.{length, get_or}
+use lib.Pointwise.{pointwise}
 use lib.Pow.{pow_pos}
 use Rattle.arrays.proofs.Fill.{length-zip_with, get_or-zip_with}
 use Rattle.limits.specs.Refusal.{refuse, outcome}
@@ -127,3 +129,15 @@ above-never_matches g w a b target j fit h =
     ap₂ (λ (x y : Bool). outcome (refuse x 2 0) y) fit
     (same-row-not (gate_row g w a b) target
     (λ e. let low : get_or target j 0 < 2 ^ w = subst (λ (l : List ℕ). get_or l j 0 < 2 ^ w) e (gate_reduces g w a b j) in omega arith))
+
+-- the library's `==` of two rows
+pub pointwise-same : (xs ys : List ℕ) → pointwise eqb xs ys ≡ same_row xs ys
+unfolding same_row
+pointwise-same [] [] = refl
+pointwise-same [] (y ∷ ys) = refl
+pointwise-same (x ∷ xs) [] = refl
+pointwise-same (x ∷ xs) (y ∷ ys) = by-first (eqb x y) (pointwise-same xs ys)
+  where
+    by-first : (first : Bool) {b c : Bool} → b ≡ c → (first && b) ≡ cond first c false
+    by-first true e = e
+    by-first false e = refl

@@ -1,14 +1,11 @@
 -- Gates on words and on rows. A "row" is 01's term: sixteen words, a formula's values at the sixteen points. Assumes nothing.
-use Rattle.std.specs.Prelude.{Bool, true, false, cond, ℕ, zero, suc, ◌+◌, ◌*◌, ◌%◌, ◌^◌, eqb, replicate}
+use Rattle.std.specs.Prelude.{Bool, true, false, cond, ℕ, zero, suc, ◌+◌, ◌*◌, ◌%◌, ◌^◌, eqb}
 use mathlib.Core.List.{List, [], ◌∷◌, map, zip_with}
 use Rattle.std.specs.Int.Bits.{bit_and, bit_or, bit_xor}
 use Rattle.arith.specs.Word.{sub_of}
-use Rattle.limits.specs.Refusal.{refuse, unless_refused, bad_width, Outcome, refused, answer, outcome}
+use Rattle.limits.specs.Refusal.{refuse, bad_width, Outcome, outcome}
 use Rattle.row_gates.specs.declared.Gate.{Gate}
 use Rattle.row_gates.specs.declared.Gate.TheVariants.{And, Or, Xor, Add, Mul}
-use Rattle.row_gates.specs.declared.RowAnswer.{RowAnswer}
-use Rattle.row_gates.specs.declared.Match.{Match}
-use Rattle.row_gates.specs.declared.Match.TheVariants.{Same, Different, Refused}
 
 -- 01, From heap ..: Gates are 0 And, 1 Or, 2 Xor, 3 Add, 4 Mul
 abbrev pub gate_number : Gate → ℕ
@@ -78,25 +75,12 @@ same_row (x ∷ xs) (y ∷ ys) = cond (eqb x y) (same_row xs ys) false
 abbrev pub gate_refusal : ℕ → ℕ
 gate_refusal w = refuse (bad_width w) 2 0
 
--- 01, Turned back: a row that a call hands back by value holds only zeros when turned back, beside the number
-abbrev pub refused_row : ℕ → RowAnswer
-refused_row number = record { refusal = number; row = replicate 16 0 }
-
-abbrev pub row_or : ℕ → List ℕ → RowAnswer
-row_or number row = record { refusal = number; row = unless_refused number row (replicate 16 0) }
-
 -- what `gate_apply`, `gate_residual` and `gate_matches` answer
-abbrev pub applied : Gate → ℕ → List ℕ → List ℕ → RowAnswer
-applied g w a b = row_or (gate_refusal w) (gate_row g w a b)
+abbrev pub applied : Gate → ℕ → List ℕ → List ℕ → Outcome (List ℕ)
+applied g w a b = outcome (gate_refusal w) (gate_row g w a b)
 
-abbrev pub residual : Gate → ℕ → List ℕ → List ℕ → RowAnswer
-residual g w target a = row_or (gate_refusal w) (residual_row g w target a)
+abbrev pub residual : Gate → ℕ → List ℕ → List ℕ → Outcome (List ℕ)
+residual g w target a = outcome (gate_refusal w) (residual_row g w target a)
 
 abbrev pub matched : Gate → ℕ → List ℕ → List ℕ → List ℕ → Outcome Bool
 matched g w a b target = outcome (gate_refusal w) (same_row (gate_row g w a b) target)
-
--- 01, Expected forms: what each case of `Match` says, its refusal or whether all sixteen match
-abbrev pub match_says : Match → Outcome Bool
-match_says Same = answer true
-match_says Different = answer false
-match_says (Refused number) = refused number

@@ -1,43 +1,14 @@
 // What the crates above call with a width that they have tested.
 ghost use Rattle.std.specs.Prelude.{◌≡◌, ◌-◌, ◌^◌, ◌≤◌};
-ghost use Rattle.row_gates.specs.Gates.{gate_number, gate_at, gate_of, gate_row, residual_of, residual_row, same_row, refused_row};
+ghost use Rattle.row_gates.specs.Gates.{gate_at, gate_of, gate_row, residual_of, residual_row, same_row};
 
-use crate::{Gate, ROW_WORDS, RowAnswer};
+use crate::{Gate, ROW_WORDS};
 
-// Zeros beside a refusal.
-pub fn refused_row(refusal: u32) -> RowAnswer
-    ensures { result ≡ refused_row refusal }
-{
-    RowAnswer {
-        refusal,
-        row: [0; ROW_WORDS],
-    }
-}
-
-// The gate of a number; one above 4 is no gate's, and gives Mul.
+// The gate of a number that is tested before; one above 4 is no gate's, and gives Mul.
 pub fn gate_at(k: u32) -> Gate
     ensures { result ≡ gate_at k }
 {
-    match k {
-        0 => Gate::And,
-        1 => Gate::Or,
-        2 => Gate::Xor,
-        3 => Gate::Add,
-        _ => Gate::Mul,
-    }
-}
-
-// The number of a gate.
-pub fn gate_number(g: Gate) -> u32
-    ensures { result ≡ gate_number g }
-{
-    match g {
-        Gate::And => 0,
-        Gate::Or => 1,
-        Gate::Xor => 2,
-        Gate::Add => 3,
-        Gate::Mul => 4,
-    }
+    Gate::try_from(k).unwrap_or(Gate::Mul)
 }
 
 // The mask of the w lowest bits, by a shift down from all ones. `arith::bitmask` makes the same word by a shift up; were it the mask of all gates, LLVM would
@@ -83,24 +54,20 @@ pub fn gate_row(a: [u64; 16], b: [u64; 16], g: Gate, w: u32) -> [u64; 16]
     ensures { result ≡ gate_row g w a b }
 {
     let mut row = [0u64; ROW_WORDS];
-    let mut i: usize = 0;
-    while i < ROW_WORDS {
+    for i in 0..ROW_WORDS {
         row[i] = gate_apply_lane(a[i], b[i], g, w);
-        i += 1;
     }
     row
 }
 
-// A residual in each of the sixteen places.
+// A residual in each of the sixteen places. A loop of its own beside the gates': over one closure for both the contracts would be no shorter, and LLVM joins arms.
 pub fn residual_row(target: [u64; 16], a: [u64; 16], g: Gate, w: u32) -> [u64; 16]
     requires { w ≤ 64 }
     ensures { result ≡ residual_row g w target a }
 {
     let mut row = [0u64; ROW_WORDS];
-    let mut i: usize = 0;
-    while i < ROW_WORDS {
+    for i in 0..ROW_WORDS {
         row[i] = residual_lane(target[i], a[i], g, w);
-        i += 1;
     }
     row
 }
@@ -110,12 +77,10 @@ pub fn row_matches(a: [u64; 16], b: [u64; 16], target: [u64; 16], g: Gate, w: u3
     requires { w ≤ 64 }
     ensures { result ≡ same_row (gate_row g w a b) target }
 {
-    let mut place: usize = 0;
-    while place < ROW_WORDS {
+    for place in 0..ROW_WORDS {
         if gate_apply_lane(a[place], b[place], g, w) != target[place] {
             return false;
         }
-        place += 1;
     }
     true
 }

@@ -13,7 +13,7 @@ pub fn load_row(rows: &[u64], slot: usize) -> [u64; 16]
 {
     let base = ROW_WORDS * slot;
     let mut row = [0u64; ROW_WORDS];
-    arrays::inner::copy_words(&mut row, &rows[base..base + ROW_WORDS]);
+    row.copy_from_slice(&rows[base..base + ROW_WORDS]);
     row
 }
 
@@ -22,7 +22,7 @@ pub fn write_row(part: &mut [u64], row: [u64; 16])
     requires { length part.old ≡ 16 }
     ensures { part.new ≡ row }
 {
-    arrays::inner::copy_words(part, &row);
+    part.copy_from_slice(&row);
 }
 
 // The row at `slot` of lent rows: its own sixteen words are lent to the row writer.
@@ -34,20 +34,13 @@ pub fn put_row(rows: &mut [u64], slot: usize, row: [u64; 16])
     write_row(&mut rows[base..base + ROW_WORDS], row);
 }
 
-// Whether row `slot` of lent rows is `row`, in all sixteen words. Stops at the first that differs.
+// Whether row `slot` of lent rows is `row`, in all sixteen words.
 pub fn same_row(rows: &[u64], slot: usize, row: [u64; 16]) -> bool
     requires { 16 * slot + 16 ≤ length rows.now }
     ensures { result ≡ same_row (part_at 16 rows.now slot) row }
 {
     let base = ROW_WORDS * slot;
-    let mut word: usize = 0;
-    while word < ROW_WORDS {
-        if rows[base + word] != row[word] {
-            return false;
-        }
-        word += 1;
-    }
-    true
+    &rows[base..base + ROW_WORDS] == row.as_slice()
 }
 
 // Whether one of the row's words is not below 2^w.
@@ -56,12 +49,10 @@ pub fn row_reaches(row: [u64; 16], w: u32) -> bool
     ensures { result ≡ reaches (2 ^ w) row }
 {
     let mask = arith::bitmask(w);
-    let mut j: usize = 0;
-    while j < ROW_WORDS {
+    for j in 0..ROW_WORDS {
         if mask < row[j] {
             return true;
         }
-        j += 1;
     }
     false
 }

@@ -4,8 +4,8 @@
 pub mod inner;
 
 // 01's slots: an atom's number in the bank and a pair's number in the index, never taken for one another.
-#[derive(Clone, Copy)]
+#[derive(Clone, Copy, Debug, PartialEq, Eq)]
 pub struct AtomSlot(pub u32);
 
-#[derive(Clone, Copy)]
+#[derive(Clone, Copy, Debug, PartialEq, Eq)]
 pub struct PairSlot(pub u32);

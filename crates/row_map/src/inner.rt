@@ -31,12 +31,7 @@ pub fn clear(work: &mut [u32], bits: u32)
     requires { (bits ≤ 31) × (2 ^ bits ≤ length work.old) }
     ensures { work.new ≡ cleared bits work.old }
 {
-    let end = heads(bits);
-    let mut i: usize = 0;
-    while i < end {
-        work[i] = NO_SLOT;
-        i += 1;
-    }
+    work[..heads(bits)].fill(NO_SLOT);
 }
 
 // Finds the newest of the first n slots whose row is `row`.
@@ -64,6 +59,7 @@ pub fn find_by(
     let links = heads(bits);
     let home = home_of(print, bits);
     let mut entry = work[home as usize];
+    // no count: the chain tells the next slot
     while entry != NO_SLOT {
         let slot = entry - 1;
         if row_lent::inner::same_row(rows, slot as usize, row) {

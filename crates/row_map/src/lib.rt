@@ -3,8 +3,8 @@
 
 pub mod inner;
 
-// The newest slot that has a row; or that none has it, and the chain that it belongs in.
-#[derive(Clone, Copy)]
+// The newest slot that has a row; or that none has it, and the chain that it belongs in. Neither is an error: as an entry of a map, taken or free.
+#[derive(Clone, Copy, Debug, PartialEq, Eq)]
 pub enum Lookup {
     At(u32),
     Free(u32),

@@ -5,7 +5,9 @@ use native.Mathlib.Decide.{dec_lt}
 use lib.Arith.{digits_mod}
 use lib.Count.{ones, ones_cat, ones-le}
 use lib.Pow.{mod-pow-add}
-use Rattle.rule_run.specs.Window.{nonzero, sum_below, bit_of, ago, answer_to, state_after}
+use Rattle.rule_run.specs.Window.{nonzero, sum_below, ago, answer_to, state_after}
+use Rattle.arith.specs.Word.{bit_of}
+use Rattle.arith.proofs.Bits.{bit_low}
 
 -- ---- sums
 pub sum_same : (n : ℕ) (f g : ℕ → ℕ) → ((i : ℕ) → i < n → f i ≡ g i) → sum_below n f ≡ sum_below n g
@@ -25,9 +27,6 @@ Bits b = (i : ℕ) → b i ≤ 1
 
 abbrev pub word_of : ℕ → (ℕ → ℕ) → ℕ
 word_of n b = sum_below n (λ (i : ℕ). b i * 2 ^ i)
-
-pub bit_low : (s i : ℕ) → bit_of s i ≤ 1
-bit_low s i = let h : s / 2 ^ i % 2 < 2 = mod-lt (s / 2 ^ i) (omega arith) in omega arith
 
 word_lt : (n : ℕ) (b : ℕ → ℕ) → Bits b → word_of n b < 2 ^ n
 unfolding sum_below
@@ -113,10 +112,6 @@ ones_few n x h = let l = ones-le n (x % 2 ^ n) (mod-lt x (pow_pos n)) in omega a
 pub mark-low : (v : ℕ) → nonzero v ≤ 1
 mark-low zero = omega arith
 mark-low (suc v) = omega arith
-
-pub mark-one : (v : ℕ) → 0 < v → nonzero v ≡ 1
-mark-one zero h = absurd (omega arith)
-mark-one (suc v) h = refl
 
 module _ (mark : ℕ → ℕ) (s : ℕ) where
   pub ago_here : (n i : ℕ) → i < n → ago mark s n i ≡ mark (n - 1 - i)

@@ -14,7 +14,8 @@ use Rattle.expr.specs.Formula.{tokens, is_formula}
 use Rattle.expr.specs.Answers.{too_short, not_formula}
 use Rattle.expr_eval.specs.Value.{value_of}
 use Rattle.rule_run.specs.declared.RuleState.{RuleState}
-use Rattle.rule_run.specs.Window.{nonzero, mark_at, sum_below, bit_of, answer_to, answers_to, state_after, bad_window, too_few, run_refusal, ran_or}
+use Rattle.rule_run.specs.Window.{nonzero, mark_at, sum_below, answer_to, answers_to, state_after, bad_window, too_few, run_refusal, ran_or}
+use Rattle.arith.specs.Word.{bit_of}
 use Rattle.rule_run.specs.Steps.{Ready, Fed}
 use Rattle.rule_run.proofs.Counting.{Bits, mark-low, state-none, state-more, answer-more}
 

@@ -11,7 +11,8 @@ use Rattle.limits.proofs.Refusals.{or_later, unless_refused_lem, unless_not}
 use Rattle.expr.specs.Formula.{tokens}
 use Rattle.expr_eval.specs.Value.{value_of}
 use Rattle.rule_run.specs.declared.RuleState.{RuleState}
-use Rattle.rule_run.specs.Window.{nonzero, mark_at, sum_below, bit_of, ago, answer_to, answers_to, state_after, run_refusal}
+use Rattle.rule_run.specs.Window.{nonzero, mark_at, sum_below, ago, answer_to, answers_to, state_after, run_refusal}
+use Rattle.arith.specs.Word.{bit_of}
 use Rattle.rule_run.specs.Facts.{Call, made, taken, state_over, answers_over, records_over, taken_over, fresh_count, uncut, FreshlyCounted, DividedAnywhere, StateFits, Appended}
 use Rattle.rule_run.proofs.Counting.{Bits, sum_same, ago_here, ago-before, ago_cases, state_bit, state_lt, state-none}
 use Rattle.rule_run.proofs.Feeding.{length-answers, answers-more, marks-low, Passes, passes, ready, refusal-none}

@@ -4,10 +4,7 @@ use Rattle.arrays.specs.Parts.{part_at}
 use Rattle.limits.specs.Refusal.{refuse, refused, answer, outcome, bad_count, bad_width}
 use Rattle.limits.proofs.Refusals.{refused_here, refused-later, or_here, or_later, outcome-word, outcome-refused}
 use Rattle.expr.specs.Answers.{too_short, not_formula}
-use Rattle.rule_run.specs.declared.RuleState.{RuleState}
-use Rattle.rule_run.specs.Window.{bad_window, too_few, run_refusal, ran_or}
-use Rattle.rule_run.specs.Steps.{record_answer}
-use Rattle.rule_run.proofs.Feeding.{ran-refused}
+use Rattle.rule_run.specs.Window.{bad_window, too_few, run_refusal}
 
 -- the first nv words are the first record
 pub first_record : (nv : ℕ) (words : List ℕ) → take (nv - 0) (drop 0 words) ≡ part_at nv words 0
@@ -39,10 +36,3 @@ module _ (nv w count : ℕ) (ops operands : List ℕ) (m window : ℕ) (words : 
       ≡ run_refusal nv w count ops operands m window 1 words (0 ∷ [])
   unfolding run_refusal
   last_numbers a b c = six (not_formula nv count ops operands) (refuse (bad_window m window) 10 0) ∙ sym (refused-later 1 a (refused-later 2 b (refused-later 4 c refl)))
-
--- a refused record is answered 0, and the state stays
-pub record_refused : (mark : ℕ → ℕ) (m window : ℕ) (s : RuleState) (k n v : ℕ) → refused k ≡ outcome n v
-    → record { refusal = k; answer = 0; state = s } ≡ record_answer (ran_or n mark m window s 1 (0 ∷ []))
-record_refused mark m window s k n v e =
-    let r = outcome-refused k n v e in
-    (λ i. record { refusal = r.1 i; answer = 0; state = s }) ∙ ap record_answer (sym (ran-refused mark m window s 1 (0 ∷ []) n r.0))

@@ -1,14 +1,15 @@
 -- A rule over a run of records: its answers, its state and its refusals, by counting. Assumes nothing.
-use Rattle.std.specs.Prelude.{ℕ, zero, suc, ◌+◌, ◌-◌, ◌*◌, ◌/◌, ◌%◌, ◌^◌, Bool, cond, ◌||◌, List, map, length, nat_le, nat_lt}
+use Rattle.std.specs.Prelude.{ℕ, zero, suc, ◌+◌, ◌-◌, ◌*◌, ◌^◌, Bool, cond, ◌||◌, List, map, length, nat_le, nat_lt, Result, Ok, Err}
+use Rattle.arith.specs.Word.{bit_of}
 use Rattle.arrays.specs.Lists.{count_up, laid}
 use Rattle.arrays.specs.Parts.{part_at}
-use Rattle.limits.specs.Refusal.{refuse, unless_refused, outside_of, bad_count, bad_width}
+use Rattle.limits.specs.Refusal.{refuse, unless_refused, outside_of, bad_count, bad_width, number_of}
+use Rattle.limits.specs.declared.Refusal.{Refusal}
 use Rattle.expr.specs.declared.Token.{Token}
 use Rattle.expr.specs.Formula.{tokens}
 use Rattle.expr.specs.Answers.{too_short, not_formula}
 use Rattle.expr_eval.specs.Value.{value_of}
 use Rattle.rule_run.specs.declared.RuleState.{RuleState}
-use Rattle.rule_run.specs.declared.RuleAnswer.{RuleAnswer}
 
 -- ---- marks
 -- 02, 2.6: its formula was nonzero. A record's mark: 1 where the value isn't 0
@@ -27,10 +28,7 @@ unfoldable pub sum_below : ℕ → (ℕ → ℕ) → ℕ
 sum_below zero f = 0
 sum_below (suc n) f = sum_below n f + f n
 
--- S9: bit i of a state is the mark i records before the last that it has seen; every 64 bits are a state, and the empty one is 0
-abbrev pub bit_of : ℕ → ℕ → ℕ
-bit_of s i = s / 2 ^ i % 2
-
+-- S9: bit i of a state, `bit_of`, is the mark i records before the last that it has seen; every 64 bits are a state, and the empty one is 0
 -- marks, each 0 or 1, of the records of a call by their numbers, and the state s before them
 module _ (mark : ℕ → ℕ) (s : ℕ) where
   -- the mark i records before the last of n: one of these n, or one from before them, which the state s has
@@ -70,9 +68,18 @@ run_refusal nv w count ops operands m window n records answers =
     (refuse (not_formula nv count ops operands) 6
     (refuse (bad_window m window) 10 0))))
 
+-- what a caller has after a call: the number of its refusal, 0 for none, and the state; beside a refusal the one that was handed in
+pub record Reply : Type 0 where
+  pub refusal : ℕ
+  pub state : RuleState
+
+abbrev pub replied : RuleState → Result RuleState Refusal → Reply
+replied s (Ok t) = record { refusal = 0; state = t }
+replied s (Err r) = record { refusal = number_of r; state = s }
+
 -- what a call replies, and what it leaves in the lent array of answers
 pub record Ran : Type 0 where
-  pub reply : RuleAnswer
+  pub reply : Reply
   pub answers : List ℕ
 
 -- a call with n records of these marks: where `number` refuses it, state and array stay as they were; else places past n do

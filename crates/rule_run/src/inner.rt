@@ -1,21 +1,19 @@
 // The steps of a run, and its refusals.
 ghost use Rattle.std.specs.Prelude.{◌≡◌, ℕ, ◌+◌, ◌-◌, ◌*◌, ◌%◌, ◌^◌, ◌<◌, ◌≤◌, leb, List, [], ◌∷◌, length, if◌then◌else◌, nat_le, nat_lt, slice_index};
-ghost use Rattle.limits.specs.Refusal.{refuse, outcome};
-ghost use Rattle.arrays.specs.Parts.{part_at};
-ghost use Rattle.expr.specs.Formula.{tokens};
-ghost use Rattle.expr_eval.specs.Value.{value_of};
-ghost use Rattle.expr_eval.specs.Answers.{value_says};
-ghost use Rattle.rule_run.specs.Window.{nonzero, mark_at, sum_below, bit_of, bad_window, too_few, run_refusal, ran_or};
-ghost use Rattle.rule_run.specs.Steps.{Ready, Fed, record_answer, ran_one};
+ghost use Rattle.limits.specs.Refusal.{refuse, refusal_of, says, outcome};
+ghost use Rattle.arith.specs.Word.{bit_of};
+ghost use Rattle.rule_run.specs.Window.{nonzero, sum_below, bad_window, too_few, ran_or};
+ghost use Rattle.rule_run.specs.Steps.{Fed, of_record, record_replied, record_answer};
+ghost use Rattle.rule_run.specs.Lent.{refusal_at, record_refusal, record_word, ran_alone, marks, IsReady};
 
-use crate::{MAX_WINDOW, RuleState};
-use expr_eval::Value;
+use crate::{LentRule, MAX_WINDOW, Records, RuleState};
+use expr_eval::inner::Tokens;
+use limits::Refusal;
 use row_gates::ROW_WORDS;
 
-// The answer to one record and the state that continues the run; beside a refusal 0, and the state as it was.
+// The answer to one record, 1 or 0 as in a lent array of answers, and the state that continues the run.
 #[derive(Clone, Copy)]
 pub struct RecordAnswer {
-    pub refusal: u32,
     pub answer: u8,
     pub state: RuleState,
 }
@@ -24,68 +22,52 @@ pub struct RecordAnswer {
 pub fn bad_window(m: u32, window: u32) -> bool
     ensures { result ≡ bad_window m window }
 {
-    if limits::inner::outside(window as u64, 1, MAX_WINDOW as u64) {
-        return true;
-    }
-    limits::inner::outside(m as u64, 1, window as u64)
+    limits::inner::outside(window as u64, 1, MAX_WINDOW as u64)
+        || limits::inner::outside(m as u64, 1, window as u64)
 }
 
 // Whether there are fewer than n records, of nv words each, or fewer than n places for answers.
-fn too_few(answers: &[u8], nv: usize, n: usize, records: &[u64]) -> bool
-    requires { 1 ≤ nv }
-    ensures { result ≡ too_few nv n records.now answers.now }
+fn too_few(answers: &[u8], records: &Records) -> bool
+    requires { 1 ≤ records.now.nv }
+    ensures { result ≡ too_few records.now.nv records.now.n records.now.words.now answers.now }
 {
-    if records.len() / nv < n {
-        return true;
-    }
-    answers.len() < n
+    records.words.len() / (records.nv as usize) < records.n || answers.len() < records.n
 }
 
-// The number of a call's refusal; 0 for none.
-pub fn run_refusal(
-    answers: &[u8],
-    nv: u32,
-    w: u32,
-    count: usize,
-    ops: &[u8],
-    operands: &[u64],
-    m: u32,
-    window: u32,
-    n: usize,
-    records: &[u64],
-) -> u32
-    ensures { result ≡ run_refusal nv w count ops.now operands.now m window n records.now answers.now }
+// Whether a call is refused.
+pub fn check(answers: &[u8], rule: &LentRule, records: &Records) -> Result<(), Refusal>
+    ensures { refusal_of result ≡ refusal_at rule.now records.now answers.now }
 {
-    if limits::inner::bad_count(nv) {
-        return 1;
+    if limits::inner::bad_count(records.nv) {
+        return Err(Refusal::VariableCount);
     }
-    if limits::inner::bad_width(w) {
-        return 2;
+    if limits::inner::bad_width(records.w) {
+        return Err(Refusal::Width);
     }
-    if expr::inner::too_short(count, ops, operands) {
-        return 4;
+    if expr::inner::too_short(rule.token_count, rule.ops, rule.operands) {
+        return Err(Refusal::ShortArray);
     }
-    if too_few(answers, nv as usize, n, records) {
-        return 4;
+    if too_few(answers, records) {
+        return Err(Refusal::ShortArray);
     }
-    if !expr::is_formula(nv, count, ops, operands) {
-        return 6;
+    if !expr::is_formula(records.nv, rule.token_count, rule.ops, rule.operands) {
+        return Err(Refusal::Formula);
     }
-    if bad_window(m, window) {
-        return 10;
+    if bad_window(rule.m, rule.window) {
+        return Err(Refusal::Window);
     }
-    0
+    Ok(())
 }
 
-// A value, or 10 in its place; a number that came before stays.
-fn after_window(x: Value, m: u32, window: u32) -> Value
-    ensures { (n v : ℕ) → value_says x ≡ outcome n v → value_says result ≡ outcome (refuse (nat_lt 0 n) n (refuse (bad_window m window) 10 0)) v }
+// A value, or refusal 10 in its place; one that came before stays. A match: with `?` the proof of its return did not close.
+fn after_window(x: Result<u64, Refusal>, m: u32, window: u32) -> Result<u64, Refusal>
+    ensures { (n v : ℕ) → says x ≡ outcome n v → says result ≡ outcome (refuse (nat_lt 0 n) n (refuse (bad_window m window) 10 0)) v }
 {
     match x {
-        Value::Refused(_) => x,
-        Value::Word(_) => {
+        Err(_) => x,
+        Ok(_) => {
             if bad_window(m, window) {
-                Value::Refused(10)
+                Err(Refusal::Window)
             } else {
                 x
             }
@@ -93,40 +75,38 @@ fn after_window(x: Value, m: u32, window: u32) -> Value
     }
 }
 
-// The formula's value at one record, or the number of the refusal. The tokens are read once.
-fn record_value(
-    nv: u32,
-    w: u32,
-    count: usize,
-    ops: &[u8],
-    operands: &[u64],
-    m: u32,
-    window: u32,
-    words: &[u64],
-) -> Value
-    ensures { value_says result ≡ outcome (run_refusal nv w count ops.now operands.now m window 1 words.now (0 ∷ [])) (value_of w (part_at nv words.now 0) (tokens count ops.now operands.now)) }
+// The formula's value at one record. The tokens are read once.
+fn record_value(rule: &LentRule, nv: u32, w: u32, words: &[u64]) -> Result<u64, Refusal>
+    ensures { says result ≡ outcome (record_refusal rule.now nv w words.now) (record_word rule.now nv w words.now) }
 {
     if limits::inner::bad_count(nv) {
-        return Value::Refused(1);
+        return Err(Refusal::VariableCount);
     }
     if limits::inner::bad_width(w) {
-        return Value::Refused(2);
+        return Err(Refusal::Width);
     }
-    if expr::inner::too_short(count, ops, operands) {
-        return Value::Refused(4);
+    if expr::inner::too_short(rule.token_count, rule.ops, rule.operands) {
+        return Err(Refusal::ShortArray);
     }
     if words.len() < nv as usize {
-        return Value::Refused(4);
+        return Err(Refusal::ShortArray);
     }
-    let x = expr_eval::inner::eval_checked(nv, w, count, ops, operands, &words[0..nv as usize]);
-    after_window(x, m, window)
+    let x = expr_eval::inner::eval_checked(
+        nv,
+        w,
+        rule.token_count,
+        rule.ops,
+        rule.operands,
+        &words[0..nv as usize],
+    );
+    after_window(x, rule.m, rule.window)
 }
 
 // 1 where a value isn't 0.
 fn mark_of(value: u64) -> u64
     ensures { result ≡ nonzero value }
 {
-    if value != 0 { 1 } else { 0 }
+    u64::from(value != 0)
 }
 
 // How many of the last W marks are 1: this one, and the W - 1 before it, which are the lowest bits of `past`.
@@ -149,7 +129,7 @@ fn reaches(count: u64, m: u32) -> bool
 fn answer_of(count: u64, m: u32) -> u8
     ensures { result ≡ (if leb m count then 1 else 0) }
 {
-    if reaches(count, m) { 1 } else { 0 }
+    u8::from(reaches(count, m))
 }
 
 // The state with one mark more; the oldest of 64 is gone.
@@ -172,12 +152,11 @@ fn feed(answers: &mut [u8], at: usize, value: u64, m: u32, window: u32, past: u6
 // The same of one record by itself.
 fn feed_record(value: u64, m: u32, window: u32, past: u64) -> RecordAnswer
     requires { (1 ≤ window) × (window ≤ 64) }
-    ensures { (mark : ℕ → ℕ) → ((i : ℕ) → mark i ≤ 1) → mark 0 ≡ nonzero value → result ≡ record_answer (ran_or 0 mark m window (record { past = past }) 1 (0 ∷ [])) }
+    ensures { (mark : ℕ → ℕ) → ((i : ℕ) → mark i ≤ 1) → mark 0 ≡ nonzero value → of_record result ≡ record_answer (ran_or 0 mark m window (record { past = past }) 1 (0 ∷ [])) }
 {
     let mut answers = [0u8; 1];
     let after = feed(&mut answers, 0, value, m, window, past);
     RecordAnswer {
-        refusal: 0,
         answer: answers[0],
         state: RuleState { past: after },
     }
@@ -189,139 +168,87 @@ fn feed_row(answers: &mut [u8], at: usize, row: [u64; 16], m: u32, window: u32, 
     ensures { (mark : ℕ → ℕ) (s : ℕ) (old : List ℕ) → ((j : ℕ) → j < 16 → mark (at + j) ≡ nonzero (slice_index row j)) → Fed mark s m window old at answers.old past → Fed mark s m window old (at + 16) answers.new result }
 {
     let mut bits = past;
-    let mut j: usize = 0;
-    while j < ROW_WORDS {
+    for j in 0..ROW_WORDS {
         bits = feed(answers, at + j, row[j], m, window, bits);
-        j += 1;
     }
     bits
 }
 
 // The records from `at` on, one by one.
-fn run_rest(
-    answers: &mut [u8],
-    nv: usize,
-    w: u32,
-    count: usize,
-    ops: &[u8],
-    operands: &[u64],
-    m: u32,
-    window: u32,
-    past: u64,
-    at: usize,
-    n: usize,
-    records: &[u64],
-) -> u64
-    requires { Ready nv w count ops.now operands.now m window n records.now × ((at ≤ n) × (n ≤ length answers.old)) }
-    ensures { (s : ℕ) (old : List ℕ) → Fed (mark_at nv w (tokens count ops.now operands.now) records.now) s m window old at answers.old past → Fed (mark_at nv w (tokens count ops.now operands.now) records.now) s m window old n answers.new result }
+fn run_rest(answers: &mut [u8], rule: &LentRule, past: u64, at: usize, records: &Records) -> u64
+    requires { IsReady rule.now records.now records.now.n × ((at ≤ records.now.n) × (records.now.n ≤ length answers.old)) }
+    ensures { (s : ℕ) (old : List ℕ) → Fed (marks rule.now records.now) s rule.now.m rule.now.window old at answers.old past → Fed (marks rule.now records.now) s rule.now.m rule.now.window old records.now.n answers.new result }
 {
+    let nv = records.nv as usize;
+    let words = records.words;
     let mut bits = past;
-    let mut k = at;
-    while k < n {
+    for k in at..records.n {
         let from = nv * k;
         let value = expr_eval::inner::eval_tokens(
-            w,
-            count,
-            ops,
-            operands,
-            &records[from..from + nv],
+            records.w,
+            rule.token_count,
+            rule.ops,
+            rule.operands,
+            &words[from..from + nv],
         );
-        bits = feed(answers, k, value, m, window, bits);
-        k += 1;
+        bits = feed(answers, k, value, rule.m, rule.window, bits);
     }
     bits
 }
 
 // The first records, `rows` times sixteen of them: the formula goes over sixteen at once. A call with none is spared the clearing of a stack.
-fn run_rows(
-    answers: &mut [u8],
-    nv: usize,
-    w: u32,
-    count: usize,
-    ops: &[u8],
-    operands: &[u64],
-    m: u32,
-    window: u32,
-    past: u64,
-    rows: usize,
-    records: &[u64],
-) -> u64
-    requires { Ready nv w count ops.now operands.now m window (16 * rows) records.now × (16 * rows ≤ length answers.old) }
-    ensures { (s : ℕ) (old : List ℕ) → Fed (mark_at nv w (tokens count ops.now operands.now) records.now) s m window old 0 answers.old past → Fed (mark_at nv w (tokens count ops.now operands.now) records.now) s m window old (16 * rows) answers.new result }
+fn run_rows(answers: &mut [u8], rule: &LentRule, past: u64, rows: usize, records: &Records) -> u64
+    requires { IsReady rule.now records.now (16 * rows) × (16 * rows ≤ length answers.old) }
+    ensures { (s : ℕ) (old : List ℕ) → Fed (marks rule.now records.now) s rule.now.m rule.now.window old 0 answers.old past → Fed (marks rule.now records.now) s rule.now.m rule.now.window old (16 * rows) answers.new result }
 {
     if rows == 0 {
         return past;
     }
     let mut stack = [0u64; expr_rows::STACK_WORDS];
+    let nv = records.nv as usize;
+    let words = records.words;
+    let formula = Tokens {
+        count: rule.token_count,
+        ops: rule.ops,
+        operands: rule.operands,
+    };
     let step = ROW_WORDS * nv;
     let mut bits = past;
-    let mut k: usize = 0;
-    while k < rows {
+    for k in 0..rows {
         let from = step * k;
         let row = expr_rows::inner::eval_row(
             &mut stack,
-            w,
+            records.w,
             nv,
-            count,
-            ops,
-            operands,
-            &records[from..from + step],
+            &formula,
+            &words[from..from + step],
         );
-        bits = feed_row(answers, ROW_WORDS * k, row, m, window, bits);
-        k += 1;
+        bits = feed_row(answers, ROW_WORDS * k, row, rule.m, rule.window, bits);
     }
     bits
 }
 
-// All n records: by rows as far as they go, then the rest.
-pub fn run(
-    answers: &mut [u8],
-    nv: u32,
-    w: u32,
-    count: usize,
-    ops: &[u8],
-    operands: &[u64],
-    m: u32,
-    window: u32,
-    past: u64,
-    n: usize,
-    records: &[u64],
-) -> u64
-    requires { Ready nv w count ops.now operands.now m window n records.now × (n ≤ length answers.old) }
-    ensures { Fed (mark_at nv w (tokens count ops.now operands.now) records.now) past m window answers.old n answers.new result }
+// All records: by rows as far as they go, then the rest.
+pub fn run(answers: &mut [u8], rule: &LentRule, past: u64, records: &Records) -> u64
+    requires { IsReady rule.now records.now records.now.n × (records.now.n ≤ length answers.old) }
+    ensures { Fed (marks rule.now records.now) past rule.now.m rule.now.window answers.old records.now.n answers.new result }
 {
-    let words = nv as usize;
-    let rows = n / ROW_WORDS;
-    let bits = run_rows(
-        answers, words, w, count, ops, operands, m, window, past, rows, records,
-    );
+    let rows = records.n / ROW_WORDS;
+    let bits = run_rows(answers, rule, past, rows, records);
     let at = ROW_WORDS * rows;
-    run_rest(
-        answers, words, w, count, ops, operands, m, window, bits, at, n, records,
-    )
+    run_rest(answers, rule, bits, at, records)
 }
 
 // `run_rule` with one record, whose answer is handed back, for a caller with single records. Refuses 1, 2, 4, 6, 10.
 pub fn run_record(
+    rule: &LentRule,
     nv: u32,
     w: u32,
-    token_count: usize,
-    ops: &[u8],
-    operands: &[u64],
-    m: u32,
-    window: u32,
     state: RuleState,
     words: &[u64],
-) -> RecordAnswer
-    ensures { result ≡ ran_one nv w token_count ops.now operands.now m window state words.now }
+) -> Result<RecordAnswer, Refusal>
+    ensures { record_replied state result ≡ ran_alone rule.now nv w state words.now }
 {
-    let old = state.past;
-    match record_value(nv, w, token_count, ops, operands, m, window, words) {
-        Value::Refused(refusal) => RecordAnswer {
-            refusal,
-            answer: 0,
-            state,
-        },
-        Value::Word(value) => feed_record(value, m, window, old),
-    }
+    let value = record_value(rule, nv, w, words)?;
+    Ok(feed_record(value, rule.m, rule.window, state.past))
 }

@@ -4,7 +4,10 @@
 pub mod inner;
 
 ghost use Rattle.std.specs.Prelude.{◌≡◌};
-ghost use Rattle.rule_run.specs.Window.{ran};
+ghost use Rattle.rule_run.specs.Window.{replied};
+ghost use Rattle.rule_run.specs.Lent.{ran_by};
+
+use limits::Refusal;
 
 // The widest window.
 pub const MAX_WINDOW: u32 = 64;
@@ -16,62 +19,38 @@ pub struct RuleState {
     pub past: u64,
 }
 
-// The state that continues the run; as it was beside a refusal.
+// A rule as it is lent: its tokens, M and W.
 #[derive(Clone, Copy)]
-pub struct RuleAnswer {
-    pub refusal: u32,
-    pub state: RuleState,
+pub struct LentRule<'a> {
+    pub token_count: usize,
+    pub ops: &'a [u8],
+    pub operands: &'a [u64],
+    pub m: u32,
+    pub window: u32,
+}
+
+// n records as they are lent: nv words of w bits each, one record after the other.
+#[derive(Clone, Copy)]
+pub struct Records<'a> {
+    pub nv: u32,
+    pub w: u32,
+    pub n: usize,
+    pub words: &'a [u64],
 }
 
 // Answers n records in the first places of `answers`: 1 where the formula was nonzero in at least m of the last `window` records, the
-// present one included, else 0. The records before these n are those that the state has seen. Refuses 1, 2, 4, 6, 10.
+// present one included, else 0; the state that continues the run. The records before these n are those that the state has seen. Refuses 1, 2, 4, 6, 10.
 pub fn run_rule(
     answers: &mut [u8],
-    nv: u32,
-    w: u32,
-    token_count: usize,
-    ops: &[u8],
-    operands: &[u64],
-    m: u32,
-    window: u32,
+    rule: &LentRule,
     state: RuleState,
-    n: usize,
-    records: &[u64],
-) -> RuleAnswer
-    ensures value { result ≡ (ran nv w token_count ops.now operands.now m window state n records.now answers.old).reply }
-    ensures answers_after { answers.new ≡ (ran nv w token_count ops.now operands.now m window state n records.now answers.old).answers }
+    records: &Records,
+) -> Result<RuleState, Refusal>
+    ensures value { replied state result ≡ (ran_by rule.now state records.now answers.old).reply }
+    ensures answers_after { answers.new ≡ (ran_by rule.now state records.now answers.old).answers }
 {
-    let refusal = inner::run_refusal(
-        answers,
-        nv,
-        w,
-        token_count,
-        ops,
-        operands,
-        m,
-        window,
-        n,
-        records,
-    );
-    if refusal != 0 {
-        return RuleAnswer { refusal, state };
-    }
+    inner::check(answers, rule, records)?;
     let old = state.past;
-    let past = inner::run(
-        answers,
-        nv,
-        w,
-        token_count,
-        ops,
-        operands,
-        m,
-        window,
-        old,
-        n,
-        records,
-    );
-    RuleAnswer {
-        refusal,
-        state: RuleState { past },
-    }
+    let past = inner::run(answers, rule, old, records);
+    Ok(RuleState { past })
 }

@@ -1,6 +1,6 @@
 -- Laws of the candidates' answer: what is known where nothing is refused, and what each answer says. Assumes nothing.
 use mathlib.Core.Path.{◌≡◌, sym, ap, ◌∙◌}
-use mathlib.Core.Bool.{Bool, true, false, ◌||◌, cond}
+use mathlib.Core.Bool.{Bool, true, ◌||◌, cond}
 use mathlib.Core.List.{List, [], ◌++◌}
 use mathlib.Core.Option.{none, some}
 use Prim.Native.Nat.{ℕ, ◌/◌, ◌^◌, ◌≤◌, ◌<◌}
@@ -9,9 +9,10 @@ use borrow.Author.Tests.{ltb-false, leb-false, not-false}
 use lib.Dec.{leb, ltb}
 use lib.ListN.{length, take, drop}
 use Rattle.arrays.specs.Lists.{keep}
-use Rattle.limits.specs.Refusal.{bad_width, refused, answer}
+use Rattle.std.specs.Prelude.{Ok, Some}
+use Rattle.limits.specs.Refusal.{bad_width, answer}
 use Rattle.arrays.proofs.Lists.{keep-none, keep_same}
-use Rattle.limits.proofs.Refusals.{within, passed, neither, enough, unless_refused_lem, unless_not}
+use Rattle.limits.proofs.Refusals.{within, passed, neither, enough, unless_not}
 use Rattle.index_order.specs.Order.{first_word, order_of, is_order}
 use Rattle.index_order.proofs.OrderLaws.{order_exactly}
 use Rattle.search_equation.specs.Equation.{used, solves}
@@ -21,7 +22,6 @@ use Rattle.search_filter.specs.Refusals.{short_pairs, wrong_order}
 use Rattle.limits.specs.Limits.{too_many_pairs}
 use Rattle.search_filter.specs.Sweeps.{in_class}
 use Rattle.search_filter.proofs.Running.{class_of}
-use Rattle.search_candidates.specs.declared.CandidatesAnswer.TheVariants.{Used, NotUsed, Refused}
 use Rattle.search_candidates.specs.Candidates.{candidates, candidates_refusal, Collected}
 use Rattle.search_candidates.specs.Steps.{Kept}
 
@@ -32,10 +32,6 @@ pub record Passed (w n : ℕ) (rows order : List ℕ) (p t : ℕ) (list : List �
   pub t-below : t < 2 ^ w
   pub ordered : Ordered n rows order
   pub room : n ≤ length list
-
--- a call's own answer to its test, where it is 0
-pub zero_of : (w n : ℕ) (rows order : List ℕ) (p t : ℕ) (list : List ℕ) (r : ℕ) → r ≡ candidates_refusal w n rows order p t list → r ≡ 0 → candidates_refusal w n rows order p t list ≡ 0
-zero_of w n rows order p t list r is e = sym is ∙ e
 
 pub none-refused : (w n : ℕ) (rows order : List ℕ) (p t : ℕ) (list : List ℕ) → candidates_refusal w n rows order p t list ≡ 0 → Passed w n rows order p t list
 none-refused w n rows order p t list e =
@@ -68,30 +64,16 @@ module _ (w n : ℕ) (rows order : List ℕ) (p t : ℕ) (old : List ℕ) where
   abbrev listed : List ℕ
   listed = candidates w p t n rows
 
-  pub refused_collected : (r : ℕ) → r ≡ number → 0 < r → Collected w n rows order p t old old (Refused r)
-  refused_collected r e h =
-      let pos : 0 < number = omega arith in
-      record {
-        says = ap (λ (k : ℕ). refused k) e ∙ sym (unless_refused_lem number _ _ pos);
-        list = sym (unless_refused_lem number _ _ pos);
-      }
-
   module _ (ok : number ≡ 0) where
-    pub unused_collected : used p t ≡ false → Collected w n rows order p t old old NotUsed
-    unused_collected u = record {
-      says = ap (λ (b : Bool). answer (cond b (some (length listed)) none)) (sym u) ∙ sym (unless_not number _ _ ok);
-      list = ap (λ (b : Bool). cond b (listed ++ drop (length listed) old) old) (sym u) ∙ sym (unless_not number _ _ ok);
-    }
-
     module _ (u : used p t ≡ true) where
-      used_collected : (new : List ℕ) (k : ℕ) → k ≡ length listed → new ≡ listed ++ drop k old → Collected w n rows order p t old new (Used k)
+      used_collected : (new : List ℕ) (k : ℕ) → k ≡ length listed → new ≡ listed ++ drop k old → Collected w n rows order p t old new (Ok (Some k))
       used_collected new k e f = record {
         says = ap (λ (i : ℕ). answer (some i)) e ∙ ap (λ (b : Bool). answer (cond b (some (length listed)) none)) (sym u) ∙ sym (unless_not number _ _ ok);
         list = f ∙ ap (λ (i : ℕ). listed ++ drop i old) e ∙ ap (λ (b : Bool). cond b (listed ++ drop (length listed) old) old) (sym u) ∙ sym (unless_not number _ _ ok);
       }
 
       -- no word solves, so none is listed
-      pub none_collected : IsNone w p t → Collected w n rows order p t old old (Used 0)
+      pub none_collected : IsNone w p t → Collected w n rows order p t old old (Ok (Some 0))
       unfolding candidates
       none_collected is =
           let none : candidates w p t n rows ≡ [] = keep-none (λ (s : ℕ). solves w p t (first_word rows s)) (order_of n rows) (λ s. is.is (first_word rows s)) in
@@ -99,7 +81,7 @@ module _ (w n : ℕ) (rows order : List ℕ) (p t : ℕ) (old : List ℕ) where
 
       -- those that solve are those of the class
       pub class_collected : {zeros first : ℕ} → IsClass w p t zeros first → Ordered n rows order → (new : List ℕ) (k : ℕ)
-          → Kept (in_class (class_of w zeros first) rows) n order old new k → Collected w n rows order p t old new (Used k)
+          → Kept (in_class (class_of w zeros first) rows) n order old new k → Collected w n rows order p t old new (Ok (Some k))
       unfolding candidates
       class_collected {zeros} {first} is ordered new k kept =
           let same : keep (in_class (class_of w zeros first) rows) (take n order) ≡ candidates w p t n rows =

@@ -10,19 +10,10 @@ use lib.Seq.{length-take-le, drop-drop, length-paste, take-paste, drop-paste}
 use Rattle.arrays.specs.Lists.{keep}
 use Rattle.search_filter.specs.declared.inner.Residue.{Residue}
 use Rattle.search_filter.specs.declared.inner.Sweep.{Sweep}
-use Rattle.search_filter.specs.Places.{Sampled}
 use Rattle.search_filter.specs.Sweeps.{in_class, Sweeping, Settled}
 use Rattle.search_filter.proofs.PlaceLaws.{keep-skips, keep_end}
 use Rattle.search_candidates.specs.Steps.{RunListed, Kept}
 use Rattle.search_candidates.proofs.Runs.{keep_run}
-
--- the samples may be none
-pub no_samples : (n : ℕ) (rows order samples : List ℕ) → Sampled n rows order samples 0
-no_samples n rows order samples = record {
-  fit = omega arith;
-  within = λ j h. absurd (omega arith);
-  is = λ j h. absurd (omega arith);
-}
 
 -- k slots are listed where the sweep stands
 pub record Filling (c : Residue) (n : ℕ) (rows order old new : List ℕ) (s : Sweep) (k : ℕ) : Type 0 where

@@ -4,45 +4,25 @@ use mathlib.Core.Bool.{Bool, true}
 use mathlib.Core.List.{List, ◌∷◌, ◌++◌}
 use Prim.Native.Nat.{ℕ, zero, suc, ◌+◌, ◌-◌, ◌≤◌, ◌<◌}
 use native.Mathlib.Decide.{dec_lt}
-use native.Mathlib.Nat.{eq-or-lt_of_le}
 use native.Mathlib.Numerals.{add-one}
 use native.Mathlib.Omega.{arith}
-use mathlib.Core.Logic.{inl, inr}
 use lib.ListN.{length, take, drop, get_or, set, length-drop}
-use lib.Seq.{drop-cons, get_or-drop, paste, paste-zero, paste-suc, length-paste}
+use lib.Seq.{drop-cons, get_or-drop, paste, paste-suc}
 use Rattle.arrays.specs.Lists.{keep}
 use Rattle.search_filter.specs.Places.{word_at}
 use Rattle.search_filter.proofs.PlaceLaws.{keep_at}
-use Rattle.search_candidates.specs.Steps.{RunListed}
 
 -- the run from `at` on goes on up to place i, and is copied
-pub record RunTo (n : ℕ) (rows order old new : List ℕ) (at k i j : ℕ) : Type 0 where
+pub record RunTo (n : ℕ) (rows order old new : List ℕ) (at k i : ℕ) : Type 0 where
   pub from : at ≤ i
   pub to : i ≤ n
-  pub next : j ≡ k + (i - at)
   pub same : (m : ℕ) → at ≤ m → m < i → word_at rows order m ≡ word_at rows order at
   pub whole : new ≡ paste old k (drop at order) (i - at)
 
 module _ (n : ℕ) (rows order old : List ℕ) (at k : ℕ) (fit : n ≤ length order) (room : n ≤ length old) (some : at < n) (few : k ≤ at) where
-  pub run-start : RunTo n rows order old old at k at k
-  run-start =
-      let none : 0 ≡ at - at = omega arith in
-      record {
-        from = omega arith;
-        to = omega arith;
-        next = omega arith;
-        same = λ m l h. absurd (omega arith);
-        whole = paste-zero old k (drop at order) ∙ ap (paste old k (drop at order)) none;
-      }
-
-  module _ (new : List ℕ) (i j : ℕ) (r : RunTo n rows order old new at k i j) where
-    pub run-size : length new ≡ length old
-    run-size =
-        ap length r.whole
-        ∙ length-paste old k (drop at order) (i - at) (omega (arith, r.from, r.to)) (omega (arith, r.to, length-drop at order))
-
+  module _ (new : List ℕ) (i : ℕ) (r : RunTo n rows order old new at k i) where
     -- one slot more
-    pub run_more : i < n → word_at rows order i ≡ word_at rows order at → RunTo n rows order old (set new j (get_or order i 0)) at k (i + 1) (j + 1)
+    pub run_more : i < n → word_at rows order i ≡ word_at rows order at → RunTo n rows order old (set new (k + (i - at)) (get_or order i 0)) at k (i + 1)
     run_more h e =
         let d = i - at in
         let slot : get_or order i 0 ≡ get_or (drop at order) d 0 = let q : i ≡ at + d = omega (arith, r.from) in ap (λ (m : ℕ). get_or order m 0) q ∙ sym (get_or-drop at order d 0) in
@@ -50,27 +30,13 @@ module _ (n : ℕ) (rows order old : List ℕ) (at k : ℕ) (fit : n ≤ length 
         record {
           from = omega (arith, r.from);
           to = omega arith;
-          next = omega (arith, r.from, r.next);
           same = λ m l b. elim (dec_lt m i) [ yes q ↦ r.same m l q | no q ↦ let s : m ≡ i = omega arith in ap (word_at rows order) s ∙ e ];
           whole =
-              ap (λ (l : List ℕ). set l j (get_or order i 0)) r.whole
-              ∙ ap (λ (m : ℕ). set (paste old k (drop at order) d) m (get_or order i 0)) r.next
+              ap (λ (l : List ℕ). set l (k + d) (get_or order i 0)) r.whole
               ∙ ap (set (paste old k (drop at order) d) (k + d)) slot
               ∙ paste-suc old k (drop at order) d 0 (omega (arith, r.from)) (omega (arith, length-drop at order))
               ∙ ap (paste old k (drop at order)) next;
         }
-
-    -- the word there is another, so the run has begun before it
-    pub run_ends : i < n → (word_at rows order i ≡ word_at rows order at → ⊥) → RunListed n rows order old new at k i
-    run_ends h ne =
-        elim (eq-or-lt_of_le {n = at} {m = i} r.from) [
-          | inl e ↦ absurd (ne (ap (word_at rows order) (sym e)))
-          | inr l ↦ record { more = l; to = r.to; same = r.same; ends = λ _. ne; whole = r.whole }
-        ]
-
-    -- there is no other
-    pub run-all : n ≤ i → RunListed n rows order old new at k i
-    run-all h = record { more = omega arith; to = r.to; same = r.same; ends = λ l. absurd (omega arith); whole = r.whole }
 
 -- what is kept of a run is the run
 pub keep_run : (test : ℕ → Bool) (n : ℕ) (order : List ℕ) → n ≤ length order → (at d : ℕ) → at + d ≤ n → ((i : ℕ) → at ≤ i → i < at + d → test (get_or order i 0) ≡ true)

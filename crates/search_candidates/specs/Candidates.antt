@@ -1,14 +1,14 @@
 -- The candidates of the product filter, from its inputs alone. Assumes nothing.
-use Rattle.std.specs.Prelude.{◌≡◌, ◌||◌, cond, List, ◌++◌, ℕ, ◌^◌, leb, ltb, length, drop}
+use Rattle.std.specs.Prelude as std
+use Rattle.std.specs.Prelude.{◌≡◌, ◌||◌, cond, List, ◌++◌, ℕ, ◌^◌, leb, ltb, length, drop, Some, None, Result}
 use Rattle.std.proofs.Math.Option.{Option, none, some}
 use Rattle.arrays.specs.Lists.{keep}
-use Rattle.limits.specs.Refusal.{refuse, unless_refused, bad_width, Outcome, refused, answer, outcome}
+use Rattle.limits.specs.Refusal.{refuse, unless_refused, bad_width, outcome, says_by}
+use Rattle.limits.specs.declared.Refusal.{Refusal}
 use Rattle.index_order.specs.Order.{first_word, order_of}
 use Rattle.search_equation.specs.Equation.{used, solves}
 use Rattle.search_filter.specs.Refusals.{short_pairs, wrong_order}
 use Rattle.limits.specs.Limits.{too_many_pairs}
-use Rattle.search_candidates.specs.declared.CandidatesAnswer.{CandidatesAnswer}
-use Rattle.search_candidates.specs.declared.CandidatesAnswer.TheVariants.{Used, NotUsed, Refused}
 
 -- 01, Candidates: all slots whose first word f has p × f = t modulo 2^w, in order-list order
 unfoldable pub candidates : ℕ → ℕ → ℕ → ℕ → List ℕ → List ℕ
@@ -24,15 +24,14 @@ candidates_refusal w n rows order p t list =
     (refuse (too_many_pairs n) 7
     (refuse (wrong_order n rows order) 8 0))))
 
--- 01, Expected forms ..: what each case of `CandidatesAnswer` says: how many candidates there are, none for "not used", or its refusal
-abbrev pub candidates_say : CandidatesAnswer → Outcome (Option ℕ)
-candidates_say (Used count) = answer (some count)
-candidates_say NotUsed = answer none
-candidates_say (Refused number) = refused number
+-- 01, Expected forms ..: how many candidates there are, none for "not used"
+abbrev pub counted : std.Option ℕ → Option ℕ
+counted None = none
+counted (Some count) = some count
 
 -- 01, Agreed between us: the result and the final list. 01, Candidates: "not used" writes nothing
-pub record Collected (w n : ℕ) (rows order : List ℕ) (p t : ℕ) (old new : List ℕ) (r : CandidatesAnswer) : Type 0 where
-  pub says : candidates_say r ≡ outcome (candidates_refusal w n rows order p t old) (cond (used p t) (some (length (candidates w p t n rows))) none)
+pub record Collected (w n : ℕ) (rows order : List ℕ) (p t : ℕ) (old new : List ℕ) (r : Result (std.Option ℕ) Refusal) : Type 0 where
+  pub says : says_by counted r ≡ outcome (candidates_refusal w n rows order p t old) (cond (used p t) (some (length (candidates w p t n rows))) none)
   pub list : new
       ≡ unless_refused (candidates_refusal w n rows order p t old)
       (cond (used p t) (candidates w p t n rows ++ drop (length (candidates w p t n rows)) old) old)

@@ -5,15 +5,11 @@ pub mod inner;
 
 ghost use Rattle.search_candidates.specs.Candidates.{Collected};
 
-// How many candidates are listed, or "not used"; or the refusal.
-#[derive(Clone, Copy)]
-pub enum CandidatesAnswer {
-    Used(u32),
-    NotUsed,
-    Refused(u32),
-}
+use limits::Refusal;
+use search_filter::inner::{Residue, Sorted};
 
-// Lists the slots whose first word f has p × f = t modulo 2^w, in order-list order. Refuses 2, 4, 5, 7, 8.
+// Lists the slots whose first word f has p × f = t modulo 2^w, in order-list order, and answers how many, none for "not used". Refuses 2, 4, 5, 7, 8.
+// Seven parameters: those of the export (the C interface).
 pub fn collect_mul_probe0_candidates(
     w: u32,
     pair_count: usize,
@@ -22,22 +18,28 @@ pub fn collect_mul_probe0_candidates(
     p: u64,
     t: u64,
     candidates: &mut [u32],
-) -> CandidatesAnswer
+) -> Result<Option<u32>, Refusal>
     ensures { Collected w pair_count pair_rows.now order.now p t candidates.old candidates.new result }
 {
-    let refusal = inner::candidates_refusal(w, pair_count, pair_rows, order, p, t, candidates);
-    if refusal != 0 {
-        return CandidatesAnswer::Refused(refusal);
-    }
-    if !search_equation::inner::is_used(p, t) {
-        return CandidatesAnswer::NotUsed;
-    }
-    let search_equation::inner::Solution::Class { zeros, first } = search_equation::inner::solve(
-        w, p, t,
-    ) else {
-        return CandidatesAnswer::Used(0);
+    // no samples are taken for one sweep
+    let pairs = Sorted {
+        rows: pair_rows,
+        order,
+        n: pair_count,
+        samples: &[],
     };
-    let class = search_filter::inner::Residue { w, zeros, first };
-    let count = inner::collect(candidates, pair_rows, order, pair_count, class);
-    CandidatesAnswer::Used(count as u32)
+    inner::check(w, &pairs, p, t, candidates)?;
+    if !search_equation::inner::is_used(p, t) {
+        return Ok(None);
+    }
+    let Some(k) = search_equation::inner::solve(w, p, t) else {
+        return Ok(Some(0));
+    };
+    let class = Residue {
+        w,
+        zeros: k.zeros,
+        first: k.first,
+    };
+    let count = inner::collect(candidates, &pairs, class);
+    Ok(Some(count as u32))
 }

@@ -15,8 +15,8 @@ use Rattle.arith.specs.Cong.{Cong}
 use Rattle.arith.proofs.Congruence.{cong_trans, cong_eq, cong_multiple, cong_less, cong_scale, cong_unscale}
 use Rattle.arith.proofs.Newton.{times_inverse, of_inverse, odd_has_inverse}
 use Rattle.search_equation.specs.Equation.{zeros_of, used, solves, solvable, running_value}
-use Rattle.search_equation.specs.declared.inner.Solution.{Solution}
-use Rattle.search_equation.specs.declared.inner.Solution.TheVariants.{Class, Nothing}
+use Rattle.std.specs.Prelude.{Option, Some, None}
+use Rattle.search_equation.specs.declared.inner.Class.{Class}
 use Rattle.search_equation.specs.Solved.{IsClass, IsNone, Solved}
 use Rattle.search_equation.specs.Facts.{Least, KeysBySteps, NoSolution}
 use Rattle.search_equation.proofs.Zeros.{OddPart, trailing_zeros_odd, shifted, zeros_lt, zeros-most, zeros_of_none}
@@ -181,9 +181,9 @@ unsolvable w p t wide below t-below e f =
     ]
 
 -- ---- what an answer of `solve` says
-module _ {w p t : ℕ} {r : Solution} (solved : Solved w p t r) where
-  pub solved_class : {zeros first : ℕ} → r ≡ Class zeros first → IsClass w p t zeros first
+module _ {w p t : ℕ} {r : Option Class} (solved : Solved w p t r) where
+  pub solved_class : {k : Class} → r ≡ Some k → IsClass w p t k.zeros k.first
   solved_class e = subst (Solved w p t) e solved
 
-  pub solved_none : r ≡ Nothing → IsNone w p t
+  pub solved_none : r ≡ None → IsNone w p t
   solved_none e = subst (Solved w p t) e solved

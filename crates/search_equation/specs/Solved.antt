@@ -1,7 +1,6 @@
 -- What `solve` is asked and what its answer says. Assumes nothing.
-use Rattle.std.specs.Prelude.{◌≡◌, true, false, ℕ, ◌-◌, ◌%◌, ◌^◌, ◌≤◌, ◌<◌, eqb}
-use Rattle.search_equation.specs.declared.inner.Solution.{Solution}
-use Rattle.search_equation.specs.declared.inner.Solution.TheVariants.{Class, Nothing}
+use Rattle.std.specs.Prelude.{◌≡◌, true, false, ℕ, ◌-◌, ◌%◌, ◌^◌, ◌≤◌, ◌<◌, eqb, Option, Some, None}
+use Rattle.search_equation.specs.declared.inner.Class.{Class}
 use Rattle.search_equation.specs.Equation.{zeros_of, used, solves}
 use Rattle.search_equation.specs.Facts.{Least}
 
@@ -24,7 +23,7 @@ pub record IsClass (w p t zeros first : ℕ) : Type 0 where
 pub record IsNone (w p t : ℕ) : Type 0 where
   pub is : (f : ℕ) → solves w p t f ≡ false
 
--- what each case of `Solution` says
-abbrev pub Solved : ℕ → ℕ → ℕ → Solution → Type 0
-Solved w p t (Class zeros first) = IsClass w p t zeros first
-Solved w p t Nothing = IsNone w p t
+-- what an answer says: a class, or none
+abbrev pub Solved : ℕ → ℕ → ℕ → Option Class → Type 0
+Solved w p t (Some k) = IsClass w p t k.zeros k.first
+Solved w p t None = IsNone w p t

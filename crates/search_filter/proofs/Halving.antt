@@ -14,16 +14,6 @@ pub record Seek (f : ℕ → ℕ) (n lo key from to : ℕ) : Type 0 where
   pub before : (k : ℕ) → lo ≤ k → k < from → f k < key
   pub after : (k : ℕ) → to ≤ k → k < n → key ≤ f k
 
--- before the first turn
-pub seek_start : (f : ℕ → ℕ) (n key from to : ℕ) → from ≤ to → to ≤ n → ((k : ℕ) → to ≤ k → k < n → key ≤ f k) → Seek f n from key from to
-seek_start f n key from to l h after = record {
-  start = omega arith;
-  up = l;
-  end = h;
-  before = λ k a b. absurd (omega arith);
-  after = after;
-}
-
 module _ (f : ℕ → ℕ) (n lo key from to mid : ℕ) (o : Ascends f n) (l : from ≤ mid) (h : mid < to) (s : Seek f n lo key from to) where
   -- at mid f is below the key: the answer is after it
   pub seek_right : f mid < key → Seek f n lo key (mid + 1) to
@@ -45,15 +35,6 @@ module _ (f : ℕ → ℕ) (n lo key from to mid : ℕ) (o : Ascends f n) (l : f
     after = λ k a b. omega (arith, o.up mid k a b);
   }
 
--- nothing is left between them
-pub seek_done : (f : ℕ → ℕ) (n lo key from to : ℕ) → to ≤ from → Seek f n lo key from to → Reached f n lo key from
-seek_done f n lo key from to d s = record {
-  from = s.start;
-  to = omega (arith, s.up, s.end);
-  before = s.before;
-  after = λ k a b. s.after k (omega (arith, s.up)) b;
-}
-
 -- f is key or more where the search begins
 pub reached_here : (f : ℕ → ℕ) (n lo key : ℕ) → Ascends f n → lo < n → key ≤ f lo → Reached f n lo key lo
 reached_here f n lo key o h le = record {
@@ -61,15 +42,6 @@ reached_here f n lo key o h le = record {
   to = omega arith;
   before = λ k a b. absurd (omega arith);
   after = λ k a b. omega (arith, o.up lo k a b);
-}
-
--- there is nothing left
-pub reached_end : (f : ℕ → ℕ) (n lo key : ℕ) → lo ≡ n → Reached f n lo key lo
-reached_end f n lo key e = record {
-  from = omega arith;
-  to = omega arith;
-  before = λ k a b. absurd (omega arith);
-  after = λ k a b. absurd (omega arith);
 }
 
 -- what comes before a later start is below the key
@@ -98,13 +70,4 @@ scan_over f lo key i a le r = record {
   to = omega (arith, r.to);
   before = r.before;
   after = λ k l b. elim (dec_lt k i) [ yes h ↦ r.after k l h | no h ↦ let e : i ≡ k = omega arith in subst (λ (j : ℕ). key ≤ f j) e le ];
-}
-
--- all from i on is key or more
-pub scan_done : (f : ℕ → ℕ) (n lo key i a : ℕ) → i ≤ n → ((k : ℕ) → i ≤ k → k < n → key ≤ f k) → Reached f i lo key a → Reached f n lo key a
-scan_done f n lo key i a h rest r = record {
-  from = r.from;
-  to = omega (arith, r.to);
-  before = r.before;
-  after = λ k l b. elim (dec_lt k i) [ yes q ↦ r.after k l q | no q ↦ rest k (omega arith) b ];
 }

@@ -1,22 +1,21 @@
 -- The sweep over the keys: from its place on, no word of the class is below its key. Assumes nothing.
 use mathlib.Core.Path.{◌≡◌, sym, ap, ◌∙◌, subst}
-use mathlib.Core.Bool.{true, false}
+use mathlib.Core.Bool.{true}
 use mathlib.Core.List.{List}
 use Prim.Native.Nat.{ℕ, ◌+◌, ◌-◌, ◌*◌, ◌/◌, ◌%◌, ◌^◌, ◌≤◌, ◌<◌}
-use native.Mathlib.Nat.{lt_irrefl, lt_of_lt_of_le, zero-mul, mod-le, div-add-mod', add-mul, one-mul, mul-le-mul_right, lt_of_mul-lt-mul_right}
+use native.Mathlib.Nat.{zero-mul, mod-le, div-add-mod', add-mul, one-mul, mul-le-mul_right, lt_of_mul-lt-mul_right}
 use native.Mathlib.Omega.{arith}
 use lib.ListN.{get_or}
-use borrow.Author.Tests.{eq-eqb, ne_eqb, eqb-true}
+use borrow.Author.Tests.{eq-eqb, eqb-true}
 use Rattle.arith.specs.Word.{modulus}
 use Rattle.arith.proofs.Remainders.{modulus-is}
 use Rattle.search_equation.specs.Equation.{running_value}
 use Rattle.search_filter.specs.declared.inner.Residue.{Residue}
 use Rattle.search_filter.specs.declared.inner.Sweep.{Sweep}
-use Rattle.search_filter.specs.Places.{word_at, Ordered, Lower, Skips, FirstOf}
+use Rattle.search_filter.specs.Places.{word_at, Ordered, Skips}
 use Rattle.search_filter.specs.Sweeps.{in_class, Small, IsKey, Sweeping, Settled}
-use Rattle.search_filter.specs.Steps.{Fresh, KeysPassed, KeySettled}
-use Rattle.search_filter.proofs.PlaceLaws.{skips-none, skips_join}
-use Rattle.arrays.proofs.Lists.{is_false}
+use Rattle.search_filter.specs.Steps.{Fresh, KeySettled}
+use Rattle.search_filter.proofs.PlaceLaws.{skips-none}
 use Rattle.search_filter.proofs.Running.{step_of, key_class, rest-next, next-value}
 use Rattle.search_filter.proofs.Words.{words-ascend}
 
@@ -45,12 +44,6 @@ module _ (c : Residue) (small : Small c) where
     word-is : get_or rows (16 * s) 0 % step ≡ r
     word-is = ap (λ (m : ℕ). get_or rows (16 * s) 0 % m) (sym (modulus-is (c.w - c.zeros) (omega (arith, small.width)))) ∙ sym is
 
-    pub class_yes : r ≡ c.first → in_class c rows s ≡ true
-    class_yes e = eq-eqb _ _ (word-is ∙ e)
-
-    pub class_no : (r ≡ c.first → ⊥) → in_class c rows s ≡ false
-    class_no n = ne_eqb _ _ (λ e. n (sym word-is ∙ e))
-
   module _ (n : ℕ) (rows order : List ℕ) where
     of_class : (k : ℕ) → in_class c rows (get_or order k 0) ≡ true → word_at rows order k % step ≡ c.first
     of_class k e = eqb-true _ _ e
@@ -68,15 +61,6 @@ module _ (c : Residue) (small : Small c) where
       key_is = λ _. b.key_is;
       above = λ _ k l h y. subst (λ (x : ℕ). x ≤ word_at rows order k) (of_class k y ∙ sym (begins b)) (mod-le (word_at rows order k) step);
       beyond = λ z. absurd (omega (arith, b.key_is.some));
-    }
-
-    -- a later place
-    pub sweeping-from : (s : Sweep) (from : ℕ) → s.at < from → from ≤ n → Sweeping c n rows order s → Sweeping c n rows order (record { at = from; key = s.key; left = s.left })
-    sweeping-from s from h b w = record {
-      within = b;
-      key_is = w.key_is;
-      above = λ p k l b y. w.above p k (omega arith) b y;
-      beyond = λ z k l b y. w.beyond z k (omega arith) b y;
     }
 
     -- ---- from turn to turn
@@ -107,49 +91,6 @@ module _ (c : Residue) (small : Small c) where
       module _ (some : 0 < left) where
         is_key : IsKey c key left
         is_key = g.sweeping.key_is some
-
-        -- up to the key nothing is of the class
-        pub going_lower : (r : ℕ) → Lower n rows order at key r → Going c n rows order a r key left
-        going_lower r low =
-            let w = g.sweeping in
-            let f = low.from in
-            record {
-              sweeping = record {
-                within = low.to;
-                key_is = w.key_is;
-                above = λ p k l h y. w.above p k (omega arith) h y;
-                beyond = λ z k l h y. absurd (omega arith);
-              };
-              from = omega (arith, g.from);
-              skips = skips_join (in_class c rows) order a at r g.skips (λ k l h.
-                  is_false (in_class c rows (get_or order k 0)) (λ y.
-                  let x = w.above some k l (omega (arith, low.to)) y in
-                  let z = low.before k l h in
-                  omega arith));
-            }
-
-        -- no place is left
-        pub going_end : at ≡ n → KeySettled c n rows order a (record { at = at; key = key; left = 0 })
-        going_end e = record {
-          sweeping = record {
-            within = omega arith;
-            key_is = λ p. absurd (omega arith);
-            above = λ p. absurd (omega arith);
-            beyond = λ _ k l h. absurd (omega arith);
-          };
-          from = omega (arith, g.from);
-          skips = λ k l h. g.skips k l (omega arith);
-          at_key = record { within = λ p. absurd (omega arith); is = λ p. absurd (omega arith) };
-        }
-
-        -- the word there is the key
-        pub going_hit : at < n → word_at rows order at ≡ key → KeySettled c n rows order a (record { at = at; key = key; left = left })
-        going_hit h e = record {
-          sweeping = g.sweeping;
-          from = g.from;
-          skips = g.skips;
-          at_key = record { within = λ _. h; is = λ _. e };
-        }
 
         -- the word there is beyond the key: one key less
         module _ (o : Ordered n rows order) (h : at < n) (le : key ≤ word_at rows order at) (ne : word_at rows order at ≡ key → ⊥) where
@@ -194,34 +135,6 @@ module _ (c : Residue) (small : Small c) where
                 skips = g.skips;
               }
 
-    -- ---- the tail
-    pub keys_passed : (a : ℕ) (s : Sweep) → s.left ≤ 0 → KeySettled c n rows order a s → KeysPassed c n rows order s.at
-    keys_passed a s z k = record { within = k.sweeping.within; beyond = k.sweeping.beyond (omega arith) }
-
-    -- no word is of the tail where each from a on is below 2^w
-    pub tail_empty : (a : ℕ) → ((k : ℕ) → a ≤ k → k < n → word_at rows order k < 2 ^ c.w) → KeysPassed c n rows order a → FirstOf (in_class c rows) n order a n
-    tail_empty a words p = record {
-      from = p.within;
-      to = omega arith;
-      skips = λ k l h.
-          is_false (in_class c rows (get_or order k 0)) (λ y.
-          lt_irrefl (word_at rows order k) (lt_of_lt_of_le (words k l h) (p.beyond k l h y)));
-      stops = λ h. absurd (omega arith);
-    }
-
-    -- which each is where the last is, since words ascend
-    pub tail_below : Ordered n rows order → (a key v : ℕ) → key ≡ 2 ^ c.w → 0 < n → v ≡ word_at rows order (n - 1) → v < key → KeysPassed c n rows order a → FirstOf (in_class c rows) n order a n
-    tail_below o a key v e some last lt p =
-        tail_empty a (λ k l h. let up = (words-ascend n rows order o).up k (n - 1) (omega arith) (omega arith) in omega arith) p
-
-    -- and else none is before the first place of the tail
-    pub tail_before : (a key r : ℕ) → key ≡ 2 ^ c.w → KeysPassed c n rows order a → Lower n rows order a key r → Skips (in_class c rows) order a r
-    tail_before a key r e p low k l h =
-        is_false (in_class c rows (get_or order k 0)) (λ y.
-        let x = p.beyond k l (omega (arith, low.to)) y in
-        let z = low.before k l h in
-        omega arith)
-
     -- ---- the keys, and the tail after them
     pub settled_key : (a : ℕ) (s : Sweep) → 0 < s.left → KeySettled c n rows order a s → Settled c n rows order a s
     settled_key a s p k = record {
@@ -230,18 +143,4 @@ module _ (c : Residue) (small : Small c) where
       skips = k.skips;
       stops = λ _. eq-eqb _ _ (ap (λ (x : ℕ). x % step) (k.at_key.is p) ∙ key_class c small s.key s.left (k.sweeping.key_is p));
       at_key = k.at_key;
-    }
-
-    pub settled_tail : (a r : ℕ) (s : Sweep) → s.left ≤ 0 → KeySettled c n rows order a s → FirstOf (in_class c rows) n order s.at r → Settled c n rows order a (record { at = r; key = s.key; left = 0 })
-    settled_tail a r s z k f = record {
-      sweeping = record {
-        within = f.to;
-        key_is = λ p. absurd (omega arith);
-        above = λ p. absurd (omega arith);
-        beyond = λ _ i l h y. k.sweeping.beyond (omega arith) i (omega (arith, f.from)) h y;
-      };
-      from = omega (arith, k.from, f.from);
-      skips = skips_join (in_class c rows) order a s.at r k.skips f.skips;
-      stops = f.stops;
-      at_key = record { within = λ p. absurd (omega arith); is = λ p. absurd (omega arith) };
     }

@@ -2,7 +2,7 @@
 use mathlib.Core.Path.{◌≡◌, sym, ap, ◌∙◌}
 use mathlib.Core.Bool.{Bool, true, false}
 use mathlib.Core.List.{List, [], ◌∷◌}
-use mathlib.Core.Option.{none, some}
+use mathlib.Core.Option.{some}
 use Prim.Native.Nat.{ℕ, zero, suc, ◌+◌, ◌-◌, ◌≤◌, ◌<◌}
 use native.Mathlib.Decide.{dec_lt}
 use native.Mathlib.Numerals.{add-one}
@@ -10,9 +10,9 @@ use native.Mathlib.Omega.{arith}
 use lib.ListN.{length, take, drop, get_or, drop_of_length-le}
 use lib.Seq.{drop-cons, get_or-take, length-take-le}
 use Rattle.arrays.specs.Lists.{keep, first_that}
-use Rattle.arrays.proofs.Lists.{is_false, keep_yes, keep_no, first_yes, first_no}
+use Rattle.arrays.proofs.Lists.{is_false, keep_yes, keep_no, first_yes}
 use Rattle.limits.proofs.Refusals.{true_not_false}
-use Rattle.search_filter.specs.Places.{Skips, FirstOf}
+use Rattle.search_filter.specs.Places.{Skips}
 
 -- ---- skipped places
 pub skips-none : (test : ℕ → Bool) (order : List ℕ) (a : ℕ) → Skips test order a a
@@ -32,15 +32,6 @@ skips-more test order a b s e k l h = elim (dec_lt k b) [
 pub skips-narrow : (class test : ℕ → Bool) (order : List ℕ) (a b : ℕ) → ((s : ℕ) → test s ≡ true → class s ≡ true) → Skips class order a b → Skips test order a b
 skips-narrow class test order a b narrow s k l h =
     is_false (test (get_or order k 0)) (λ e. true_not_false (sym (narrow (get_or order k 0) e) ∙ s k l h))
-
--- ---- the first place of a test, from an earlier start
-pub first-earlier : (test : ℕ → Bool) (n : ℕ) (order : List ℕ) (a b r : ℕ) → a ≤ b → Skips test order a b → FirstOf test n order b r → FirstOf test n order a r
-first-earlier test n order a b r l s f = record {
-  from = omega (arith, f.from);
-  to = f.to;
-  skips = skips_join test order a b r s f.skips;
-  stops = f.stops;
-}
 
 -- ---- the first n of a list, from a place on
 module _ (test : ℕ → Bool) (n : ℕ) (order : List ℕ) (fit : n ≤ length order) where
@@ -66,10 +57,6 @@ module _ (test : ℕ → Bool) (n : ℕ) (order : List ℕ) (fit : n ≤ length 
   unfolding keep
   keep_end k h = ap (keep test) (from_end k h)
 
-  pub first_end : (k : ℕ) → n ≤ k → first_that test (drop k (take n order)) ≡ none
-  unfolding first_that
-  first_end k h = ap (first_that test) (from_end k h)
-
   -- skipped places
   keep_skip : (a d : ℕ) → a + d ≤ n → Skips test order a (a + d) → keep test (drop a (take n order)) ≡ keep test (drop (a + d) (take n order))
   keep_skip a zero h s = let e : a ≡ a + 0 = omega arith in ap (λ (i : ℕ). keep test (drop i (take n order))) e
@@ -80,21 +67,7 @@ module _ (test : ℕ → Bool) (n : ℕ) (order : List ℕ) (fit : n ≤ length 
       ∙ keep_no test (get_or order (a + d) 0) (drop (a + d + 1) (take n order)) (s (a + d) (omega arith) (omega arith))
       ∙ ap (λ (i : ℕ). keep test (drop i (take n order))) e
 
-  first_skip : (a d : ℕ) → a + d ≤ n → Skips test order a (a + d) → first_that test (drop a (take n order)) ≡ first_that test (drop (a + d) (take n order))
-  first_skip a zero h s = let e : a ≡ a + 0 = omega arith in ap (λ (i : ℕ). first_that test (drop i (take n order))) e
-  first_skip a (suc d) h s =
-      let e : a + d + 1 ≡ a + suc d = omega arith in
-      first_skip a d (omega arith) (λ k l b. s k l (omega arith))
-      ∙ ap (first_that test) (from_place (a + d) (omega arith))
-      ∙ first_no test (get_or order (a + d) 0) (drop (a + d + 1) (take n order)) (s (a + d) (omega arith) (omega arith))
-      ∙ ap (λ (i : ℕ). first_that test (drop i (take n order))) e
-
   pub keep-skips : (a b : ℕ) → a ≤ b → b ≤ n → Skips test order a b → keep test (drop a (take n order)) ≡ keep test (drop b (take n order))
   keep-skips a b l h s =
       let e : a + (b - a) ≡ b = omega arith in
       keep_skip a (b - a) (omega arith) (λ k x y. s k x (omega arith)) ∙ ap (λ (i : ℕ). keep test (drop i (take n order))) e
-
-  pub first-skips : (a b : ℕ) → a ≤ b → b ≤ n → Skips test order a b → first_that test (drop a (take n order)) ≡ first_that test (drop b (take n order))
-  first-skips a b l h s =
-      let e : a + (b - a) ≡ b = omega arith in
-      first_skip a (b - a) (omega arith) (λ k x y. s k x (omega arith)) ∙ ap (λ (i : ℕ). first_that test (drop i (take n order))) e

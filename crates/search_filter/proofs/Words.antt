@@ -1,16 +1,17 @@
 -- The words of an ordered list and its samples ascend. Assumes nothing.
-use mathlib.Core.Path.{◌≡◌, ap}
+use mathlib.Core.Path.{◌≡◌, ap, subst}
 use mathlib.Core.List.{List}
 use mathlib.Core.Logic.{inl, inr}
 use Prim.Native.Nat.{ℕ, ◌+◌, ◌-◌, ◌*◌, ◌≤◌, ◌<◌}
 use native.Mathlib.Nat.{eq-or-lt_of_le}
 use native.Mathlib.Decide.{dec_lt}
 use native.Mathlib.Omega.{arith}
-use lib.ListN.{length, set, get_or, length-set}
-use Rattle.arrays.proofs.Fill.{filled_more}
+use lib.ListN.{length, get_or}
 use Rattle.index_order.proofs.OrderLaws.{order_lent}
+use Rattle.search_filter.specs.declared.inner.Sorted.{Sorted}
 use Rattle.search_filter.specs.Places.{word_at, sample_step, Ordered, Sampled, Reached, Lower}
 use Rattle.search_filter.specs.Steps.{Ascends, AfterSamples, Window}
+use Rattle.search_filter.specs.Lists.{IsSorted}
 use Rattle.search_filter.proofs.Halving.{reached_earlier}
 
 module _ (n : ℕ) (rows order : List ℕ) (o : Ordered n rows order) where
@@ -25,6 +26,10 @@ module _ (n : ℕ) (rows order : List ℕ) (o : Ordered n rows order) where
     ];
   }
 
+  -- each word is below t where the last is
+  pub words-below : (t v : ℕ) → v ≡ word_at rows order (n - 1) → v < t → (k : ℕ) → k < n → word_at rows order k < t
+  words-below t v last lt k h = let up = words-ascend.up k (n - 1) (omega arith) (omega arith) in omega arith
+
   module _ (samples : List ℕ) (m : ℕ) (sampled : Sampled n rows order samples m) where
     pub samples_ascend : Ascends (λ (j : ℕ). get_or samples j 0) m
     samples_ascend = record {
@@ -35,29 +40,33 @@ module _ (n : ℕ) (rows order : List ℕ) (o : Ordered n rows order) where
           omega arith;
     }
 
-    pub samples_few : m ≤ 262144
-    samples_few = elim (dec_lt 0 m) [ yes h ↦ omega (arith, sampled.within (m - 1) (omega arith), o.most) | no h ↦ omega arith ]
-
-    -- one sample more
-    pub sampled_more : (v : ℕ) → m < length samples → sample_step * m < n → v ≡ word_at rows order (sample_step * m) → Sampled n rows order (set samples m v) (m + 1)
-    sampled_more v h b e = record {
-      fit = omega (arith, length-set samples m v);
-      within = λ j l. omega arith;
-      is = filled_more (λ (j : ℕ). word_at rows order (sample_step * j)) samples m v h sampled.is e;
-    }
-
 -- u samples are below the key, which the word at lo is too, and the search goes on from `from`
-pub record Narrowed (n : ℕ) (rows order samples : List ℕ) (m lo key u from : ℕ) : Type 0 where
-  pub ordered : Ordered n rows order
-  pub sampled : Sampled n rows order samples m
-  pub within : lo < n
-  pub low : word_at rows order lo < key
-  pub count : Reached (λ (j : ℕ). get_or samples j 0) m 0 key u
+pub record Narrowed (l : Sorted) (lo key u from : ℕ) : Type 0 where
+  pub is : IsSorted l
+  pub within : lo < l.n
+  pub low : word_at l.rows.now l.order.now lo < key
+  pub count : Reached (λ (j : ℕ). get_or l.samples.now j 0) (length l.samples.now) 0 key u
   pub after : AfterSamples lo u from
 
-module _ (n : ℕ) (rows order samples : List ℕ) (m lo key u from : ℕ) (x : Narrowed n rows order samples m lo key u from) where
+pub narrowed : (l : Sorted) (lo key : ℕ) {word u from : ℕ} → IsSorted l → lo < l.n → word ≡ word_at l.rows.now l.order.now lo → word < key
+    → Reached (λ (j : ℕ). get_or l.samples.now j 0) (length l.samples.now) 0 key u → AfterSamples lo u from → Narrowed l lo key u from
+narrowed l lo key is within e low count after = record { is = is; within = within; low = subst (λ (x : ℕ). x < key) e low; count = count; after = after }
+
+module _ (l : Sorted) (lo key u from : ℕ) (x : Narrowed l lo key u from) where
+  abbrev n : ℕ
+  n = l.n
+
+  abbrev rows : List ℕ
+  rows = l.rows.now
+
+  abbrev order : List ℕ
+  order = l.order.now
+
+  abbrev m : ℕ
+  m = length l.samples.now
+
   abbrev ascends : Ascends (word_at rows order) n
-  ascends = words-ascend n rows order x.ordered
+  ascends = words-ascend n rows order x.is.ordered
 
   -- the places up to the last of these samples have smaller words
   sampled_before : (k : ℕ) → k + sample_step ≤ sample_step * u → word_at rows order k < key
@@ -66,8 +75,8 @@ module _ (n : ℕ) (rows order samples : List ℕ) (m lo key u from : ℕ) (x : 
       let in-u : j < u = omega arith in
       let in-m : j < m = omega (arith, x.count.to) in
       let a = x.count.before j (omega arith) in-u in
-      let b = x.sampled.is j in-m in
-      let d = ascends.up k (sample_step * j) (omega arith) (x.sampled.within j in-m) in
+      let b = x.is.sampled.is j in-m in
+      let d = ascends.up k (sample_step * j) (omega arith) (x.is.sampled.within j in-m) in
       omega arith
 
   pub from-before : (k : ℕ) → lo ≤ k → k < from → word_at rows order k < key
@@ -77,15 +86,15 @@ module _ (n : ℕ) (rows order samples : List ℕ) (m lo key u from : ℕ) (x : 
   from-within = elim (dec_lt lo from) [
     | yes h ↦
         let in-m : u - 1 < m = omega (arith, x.after.to h, x.count.to) in
-        omega (arith, x.after.to h, x.sampled.within (u - 1) in-m)
+        omega (arith, x.after.to h, x.is.sampled.within (u - 1) in-m)
     | no h ↦ omega (arith, x.within, x.after.from)
   ]
 
   -- the next sample isn't below the key
-  pub window-next : u < m → Window n rows order from (sample_step * u) key
+  pub window-next : u < m → Window l from (sample_step * u) key
   window-next h =
-      let top : key ≤ word_at rows order (sample_step * u) = let a = x.count.after u (omega arith) h in let b = x.sampled.is u h in omega arith in
-      let w = x.sampled.within u h in
+      let top : key ≤ word_at rows order (sample_step * u) = let a = x.count.after u (omega arith) h in let b = x.is.sampled.is u h in omega arith in
+      let w = x.is.sampled.within u h in
       record {
         up = elim (dec_lt lo from) [
           | yes l ↦ omega (arith, x.after.to l)
@@ -97,9 +106,6 @@ module _ (n : ℕ) (rows order samples : List ℕ) (m lo key u from : ℕ) (x : 
         within = omega arith;
         after = λ k a b. let d = ascends.up (sample_step * u) k a b in omega arith;
       }
-
-  pub window-rest : Window n rows order from n key
-  window-rest = record { up = from-within; within = omega arith; after = λ k a b. absurd (omega arith) }
 
   pub lower_from : (r : ℕ) → Lower n rows order from key r → Lower n rows order lo key r
   lower_from r d = reached_earlier (word_at rows order) n lo from key r x.after.from from-before d

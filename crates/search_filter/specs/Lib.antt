@@ -2,5 +2,6 @@
 pub mod Places
 pub mod Sweeps
 pub mod Steps
+pub mod Lists
 pub mod Facts
 pub mod Refusals

@@ -1,6 +1,7 @@
 -- What the contracts of the private functions of src/inner.rt cite; no caller needs it. Assumes nothing.
-use Rattle.std.specs.Prelude.{◌≡◌, true, List, ℕ, ◌+◌, ◌*◌, ◌^◌, ◌≤◌, ◌<◌, get_or}
+use Rattle.std.specs.Prelude.{◌≡◌, true, List, ℕ, ◌+◌, ◌*◌, ◌^◌, ◌≤◌, ◌<◌, get_or, Option, Some, None}
 use Rattle.search_filter.specs.declared.inner.Residue.{Residue}
+use Rattle.search_filter.specs.declared.inner.Sorted.{Sorted}
 use Rattle.search_filter.specs.declared.inner.Sweep.{Sweep}
 use Rattle.search_filter.specs.Places.{word_at, sample_step, Skips}
 use Rattle.search_filter.specs.Sweeps.{in_class, IsKey, Sweeping, AtKey}
@@ -21,10 +22,15 @@ pub record Fresh (c : Residue) (s : Sweep) : Type 0 where
   pub key_is : IsKey c s.key s.left
 
 -- all words from place `to` on are key or more
-pub record Window (n : ℕ) (rows order : List ℕ) (from to key : ℕ) : Type 0 where
+pub record Window (l : Sorted) (from to key : ℕ) : Type 0 where
   pub up : from ≤ to
-  pub within : to ≤ n
-  pub after : (k : ℕ) → to ≤ k → k < n → key ≤ word_at rows order k
+  pub within : to ≤ l.n
+  pub after : (k : ℕ) → to ≤ k → k < l.n → key ≤ word_at l.rows.now l.order.now k
+
+-- what the tail is looked up by: 2^w, or none where no word is as large
+abbrev pub TailKey : ℕ → ℕ → List ℕ → List ℕ → Option ℕ → Type 0
+TailKey w n rows order (Some top) = top ≡ 2 ^ w
+TailKey w n rows order None = (k : ℕ) → k < n → word_at rows order k < 2 ^ w
 
 -- the keys are passed: from place a on no word of the class is below 2^w
 pub record KeysPassed (c : Residue) (n : ℕ) (rows order : List ℕ) (a : ℕ) : Type 0 where

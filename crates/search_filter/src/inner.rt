@@ -1,8 +1,9 @@
 // What the candidates and the search call with an order list that they have tested.
 ghost use Rattle.std.specs.Prelude.{◌≡◌, ℕ, ◌-◌, ◌≤◌, ◌<◌, length, get_or};
-ghost use Rattle.search_filter.specs.Places.{word_at, Ordered, Sampled, Reached, Lower, FirstOf};
-ghost use Rattle.search_filter.specs.Sweeps.{in_class, Small, IsKey, Sweeping, Settled};
-ghost use Rattle.search_filter.specs.Steps.{Ascends, AfterSamples, Fresh, Window, KeysPassed, KeySettled};
+ghost use Rattle.search_filter.specs.Places.{word_at, Ordered, Sampled, Reached};
+ghost use Rattle.search_filter.specs.Sweeps.{Small, IsKey};
+ghost use Rattle.search_filter.specs.Lists.{IsSorted, LowerIn, FirstIn, SweepingIn, SettledIn};
+ghost use Rattle.search_filter.specs.Steps.{Ascends, AfterSamples, Fresh, Window, TailKey, KeysPassed, KeySettled};
 
 // The words that leave `first` modulo 2^(w - zeros); those below 2^w are keys, 2^zeros of them.
 #[derive(Clone, Copy)]
@@ -10,6 +11,15 @@ pub struct Residue {
     pub w: u32,
     pub zeros: u32,
     pub first: u64,
+}
+
+// A lent order list of n slots, the rows that it lists, and samples of their first words, which may be none.
+#[derive(Clone, Copy)]
+pub struct Sorted<'a> {
+    pub rows: &'a [u64],
+    pub order: &'a [u32],
+    pub n: usize,
+    pub samples: &'a [u64],
 }
 
 // The place that a sweep has come to, its running value, which is the key that it looks for, and how many keys are left, this one included.
@@ -40,24 +50,23 @@ pub fn sample(samples: &mut [u64], rows: &[u64], order: &[u32], n: usize) -> usi
     requires { Ordered n rows.now order.now }
     ensures { Sampled n rows.now order.now samples.new result }
 {
-    let mut j: usize = 0;
-    while SAMPLE_STEP * j < n {
-        if j == samples.len() {
+    for j in 0..samples.len() {
+        if n <= SAMPLE_STEP * j {
             return j;
         }
         samples[j] = word_at(rows, order, n, SAMPLE_STEP * j);
-        j += 1;
     }
-    j
+    samples.len()
 }
 
-// How many of the m samples are below the key.
-fn count_below(samples: &[u64], m: usize, key: u64) -> usize
-    requires { (m ≤ length samples.now) × Ascends (λ (j : ℕ). get_or samples.now j 0) m }
-    ensures { Reached (λ (j : ℕ). get_or samples.now j 0) m 0 key result }
+// How many of the samples are below the key.
+fn count_below(samples: &[u64], key: u64) -> usize
+    requires { Ascends (λ (j : ℕ). get_or samples.now j 0) (length samples.now) }
+    ensures { Reached (λ (j : ℕ). get_or samples.now j 0) (length samples.now) 0 key result }
 {
     let mut from: usize = 0;
-    let mut to = m;
+    let mut to = samples.len();
+    // no count: each turn halves what is left
     while from < to {
         let mid = from + (to - from >> 1);
         if samples[mid] < key {
@@ -81,29 +90,33 @@ fn after_samples(lo: usize, u: usize) -> usize
 }
 
 // The first place from `from` on whose first word is `key` or more, which is `to` at the latest, word by word.
-fn scan_lower(rows: &[u64], order: &[u32], n: usize, from: usize, to: usize, key: u64) -> usize
-    requires { Ordered n rows.now order.now × Window n rows.now order.now from to key }
-    ensures { Lower n rows.now order.now from key result }
+fn scan_lower(sorted: &Sorted<'_>, from: usize, to: usize, key: u64) -> usize
+    requires { IsSorted sorted.now × Window sorted.now from to key }
+    ensures { LowerIn sorted.now from key result }
 {
+    let rows = sorted.rows;
+    let order = sorted.order;
+    let n = sorted.n;
     let mut a = from;
-    let mut i = from;
-    while i < to {
-        let k = i;
-        i += 1;
-        if word_at(rows, order, n, k) < key {
-            a = i;
+    for i in from..to {
+        if word_at(rows, order, n, i) < key {
+            a = i + 1;
         }
     }
     a
 }
 
 // The same by binary search, as long as there are more than a few places.
-fn lower_between(rows: &[u64], order: &[u32], n: usize, from: usize, to: usize, key: u64) -> usize
-    requires { Ordered n rows.now order.now × Window n rows.now order.now from to key }
-    ensures { Lower n rows.now order.now from key result }
+fn lower_between(sorted: &Sorted<'_>, from: usize, to: usize, key: u64) -> usize
+    requires { IsSorted sorted.now × Window sorted.now from to key }
+    ensures { LowerIn sorted.now from key result }
 {
+    let rows = sorted.rows;
+    let order = sorted.order;
+    let n = sorted.n;
     let mut a = from;
     let mut b = to;
+    // no count: each turn halves what is left
     while b - a > SCANNED {
         let mid = a + (b - a >> 1);
         if word_at(rows, order, n, mid) < key {
@@ -112,35 +125,28 @@ fn lower_between(rows: &[u64], order: &[u32], n: usize, from: usize, to: usize, 
             b = mid;
         }
     }
-    scan_lower(rows, order, n, a, b, key)
+    scan_lower(sorted, a, b, key)
 }
 
-// The first place from `lo` on whose first word is `key` or more. The m samples narrow the search before it reads rows.
-pub fn lower(
-    rows: &[u64],
-    order: &[u32],
-    n: usize,
-    samples: &[u64],
-    m: usize,
-    lo: usize,
-    key: u64,
-) -> usize
-    requires { Ordered n rows.now order.now × Sampled n rows.now order.now samples.now m × (lo ≤ n) }
-    ensures { Lower n rows.now order.now lo key result }
+// The first place from `lo` on whose first word is `key` or more. The samples narrow the search before it reads rows.
+pub fn lower(sorted: &Sorted<'_>, lo: usize, key: u64) -> usize
+    requires { IsSorted sorted.now × (lo ≤ sorted.now.n) }
+    ensures { LowerIn sorted.now lo key result }
 {
+    let n = sorted.n;
     if lo == n {
         return lo;
     }
     // a run of equal words is walked with no search
-    if key <= word_at(rows, order, n, lo) {
+    if key <= word_at(sorted.rows, sorted.order, n, lo) {
         return lo;
     }
-    let u = count_below(samples, m, key);
+    let u = count_below(sorted.samples, key);
     let from = after_samples(lo, u);
-    if u < m {
-        return lower_between(rows, order, n, from, SAMPLE_STEP * u, key);
+    if u < sorted.samples.len() {
+        return lower_between(sorted, from, SAMPLE_STEP * u, key);
     }
-    lower_between(rows, order, n, from, n, key)
+    lower_between(sorted, from, n, key)
 }
 
 // A sweep at the first place, its running value at the least key.
@@ -163,21 +169,17 @@ fn next_key(class: Residue, key: u64, left: u64) -> u64
 }
 
 // From the sweep's place on, the first place whose first word is one of the keys left.
-fn settle_keys(
-    rows: &[u64],
-    order: &[u32],
-    n: usize,
-    samples: &[u64],
-    m: usize,
-    class: Residue,
-    s: Sweep,
-) -> Sweep
-    requires { Ordered n rows.now order.now × Sampled n rows.now order.now samples.now m × Small class × Sweeping class n rows.now order.now s }
-    ensures { KeySettled class n rows.now order.now s.at result }
+fn settle_keys(sorted: &Sorted<'_>, class: Residue, s: Sweep) -> Sweep
+    requires { IsSorted sorted.now × Small class × SweepingIn class sorted.now s }
+    ensures { KeySettled class sorted.now.n sorted.now.rows.now sorted.now.order.now s.at result }
 {
+    let rows = sorted.rows;
+    let order = sorted.order;
+    let n = sorted.n;
     let mut at = s.at;
     let mut key = s.key;
     let mut left = s.left;
+    // no count: a turn looks up a place or goes to the next key
     while left > 0 {
         if at == n {
             return Sweep { at, key, left: 0 };
@@ -185,7 +187,7 @@ fn settle_keys(
         // nothing is looked up as long as the word here is beyond the key
         let word = word_at(rows, order, n, at);
         if word < key {
-            at = lower(rows, order, n, samples, m, at, key);
+            at = lower(sorted, at, key);
         } else {
             if word == key {
                 return Sweep { at, key, left };
@@ -201,109 +203,86 @@ fn settle_keys(
 }
 
 // The first place from `at` on whose first word is of the class, one by one.
-fn scan_class(rows: &[u64], order: &[u32], n: usize, class: Residue, at: usize) -> usize
-    requires { Ordered n rows.now order.now × Small class × (at ≤ n) }
-    ensures { FirstOf (in_class class rows.now) n order.now at result }
+fn scan_class(sorted: &Sorted<'_>, class: Residue, at: usize) -> usize
+    requires { IsSorted sorted.now × Small class × (at ≤ sorted.now.n) }
+    ensures { FirstIn class sorted.now at result }
 {
+    let rows = sorted.rows;
+    let order = sorted.order;
+    let n = sorted.n;
     let bits = class.w - class.zeros;
-    let mut i = at;
-    while i < n {
+    for i in at..n {
         if arith::reduce(word_at(rows, order, n, i), bits) == class.first {
             return i;
         }
-        i += 1;
     }
-    i
+    n
+}
+
+// What the tail is looked up by: 2^w, if the list has a word as large.
+fn tail_key(rows: &[u64], order: &[u32], n: usize, w: u32) -> Option<u64>
+    requires { Ordered n rows.now order.now × (0 < n) × (w ≤ 64) }
+    ensures { TailKey w n rows.now order.now result }
+{
+    if w == limits::MAX_WIDTH {
+        return None;
+    }
+    // the last word is the largest: most lists have no word of 2^w or more
+    let top: u64 = 1 << w;
+    if word_at(rows, order, n, n - 1) < top {
+        return None;
+    }
+    Some(top)
 }
 
 // From `at` on, the first place whose first word is of the class: all such words are 2^w or more.
-fn settle_tail(
-    rows: &[u64],
-    order: &[u32],
-    n: usize,
-    samples: &[u64],
-    m: usize,
-    class: Residue,
-    at: usize,
-) -> usize
-    requires { Ordered n rows.now order.now × Sampled n rows.now order.now samples.now m × Small class × KeysPassed class n rows.now order.now at }
-    ensures { FirstOf (in_class class rows.now) n order.now at result }
+fn settle_tail(sorted: &Sorted<'_>, class: Residue, at: usize) -> usize
+    requires { IsSorted sorted.now × Small class × KeysPassed class sorted.now.n sorted.now.rows.now sorted.now.order.now at }
+    ensures { FirstIn class sorted.now at result }
 {
-    if class.w == limits::MAX_WIDTH {
-        return n;
-    }
+    let n = sorted.n;
     if at == n {
         return n;
     }
-    // the last word is the largest: most lists have no word of 2^w or more
-    let top: u64 = 1 << class.w;
-    if word_at(rows, order, n, n - 1) < top {
+    let Some(top) = tail_key(sorted.rows, sorted.order, n, class.w) else {
         return n;
-    }
-    let from = lower(rows, order, n, samples, m, at, top);
-    scan_class(rows, order, n, class, from)
+    };
+    let from = lower(sorted, at, top);
+    scan_class(sorted, class, from)
 }
 
 // From the sweep's place on, the first place of the class.
-fn settle(
-    rows: &[u64],
-    order: &[u32],
-    n: usize,
-    samples: &[u64],
-    m: usize,
-    class: Residue,
-    s: Sweep,
-) -> Sweep
-    requires { Ordered n rows.now order.now × Sampled n rows.now order.now samples.now m × Small class × Sweeping class n rows.now order.now s }
-    ensures { Settled class n rows.now order.now s.at result }
+fn settle(sorted: &Sorted<'_>, class: Residue, s: Sweep) -> Sweep
+    requires { IsSorted sorted.now × Small class × SweepingIn class sorted.now s }
+    ensures { SettledIn class sorted.now s.at result }
 {
-    let t = settle_keys(rows, order, n, samples, m, class, s);
+    let t = settle_keys(sorted, class, s);
     if t.left > 0 {
         return t;
     }
-    let at = settle_tail(rows, order, n, samples, m, class, t.at);
+    let at = settle_tail(sorted, class, t.at);
     Sweep {
-        at: at,
+        at,
         key: t.key,
         left: 0,
     }
 }
 
 // The first place of the class.
-pub fn first_place(
-    rows: &[u64],
-    order: &[u32],
-    n: usize,
-    samples: &[u64],
-    m: usize,
-    class: Residue,
-) -> Sweep
-    requires { Ordered n rows.now order.now × Sampled n rows.now order.now samples.now m × Small class }
-    ensures { Settled class n rows.now order.now 0 result }
+pub fn first_place(sorted: &Sorted<'_>, class: Residue) -> Sweep
+    requires { IsSorted sorted.now × Small class }
+    ensures { SettledIn class sorted.now 0 result }
 {
-    settle(rows, order, n, samples, m, class, first_sweep(class))
+    settle(sorted, class, first_sweep(class))
 }
 
 // The next place of the class from `from` on, which is after the one that the sweep has come to.
-pub fn next_from(
-    rows: &[u64],
-    order: &[u32],
-    n: usize,
-    samples: &[u64],
-    m: usize,
-    class: Residue,
-    s: Sweep,
-    from: usize,
-) -> Sweep
-    requires { Ordered n rows.now order.now × Sampled n rows.now order.now samples.now m × Small class × Sweeping class n rows.now order.now s × (s.at < from) × (from ≤ n) }
-    ensures { Settled class n rows.now order.now from result }
+pub fn next_from(sorted: &Sorted<'_>, class: Residue, s: Sweep, from: usize) -> Sweep
+    requires { IsSorted sorted.now × Small class × SweepingIn class sorted.now s × (s.at < from) × (from ≤ sorted.now.n) }
+    ensures { SettledIn class sorted.now from result }
 {
     settle(
-        rows,
-        order,
-        n,
-        samples,
-        m,
+        sorted,
         class,
         Sweep {
             at: from,

@@ -33,7 +33,8 @@ use Rattle.index_spec.specs.Encoding.{pair_part, pair_row}
 use Rattle.index_spec.specs.Facts.{no_pair}
 use Rattle.index_spec.proofs.IndexLaws.{index-is_sound, at-most_limit}
 use Rattle.index_spec.proofs.RowLaws.{length-rows_of}
-use Rattle.index.specs.Build.{Arrays, Summary, index_refusal, lent_index, summary_of, order_list}
+use Rattle.index.specs.declared.BuiltIndex.{BuiltIndex}
+use Rattle.index.specs.Build.{index_refusal, lent_index, summary_of, order_list}
 use Rattle.index.proofs.Passing as index
 use Rattle.search_product_forms.specs.Forms.{Forms, atom_form, pair_gate, pair_b, pair_c}
 use Rattle.search_product_forms.specs.Refusals.{some_below, bad_atom, bad_pair}
@@ -119,9 +120,9 @@ built-passes nv v points seeding old left old_work left_work b count bank-built 
     let index-done = answered index_number (summary_of (lent_index w count left.rows L)) said (sym index-built.says ∙ index-says) in
     let none-i = zero_of index_number index-done.free in
     let wide = within 1 64 w (passed (bad_width w) 2 _ (omega arith) none-i).0 in
-    let fit = index.none-refused w count L (length left.rows) _ _ _ _ index_number refl none-i in
+    let fit = index.none-refused w count L (length left.rows) _ _ _ _ none-i in
     let ps = (lent_index w count left.rows L).pairs in
-    let n : length ps ≡ said.pairs = ap (λ (x : Summary). x.pairs) index-done.is in
+    let n : length ps ≡ said.pairs = ap (λ (x : BuiltIndex). x.pairs) index-done.is in
     let own = built-is_own w count left.rows L lent made r said index-built index-says in
     let rows_fit : Fit w count left.rows L = record { rows = fit.atoms } in
     let pairs-there = index-built.pairs ∙ unless_not index_number _ _ none-i in

@@ -24,7 +24,8 @@ use Rattle.row_gates.specs.declared.Gate.{Gate}
 use Rattle.row_gates.specs.declared.Gate.TheVariants.{And, Or, Xor, Add, Mul}
 use Rattle.index_spec.specs.Index.{Pair, all_gates, passes_over, rows_of, rows_in, all_pairs, index_of}
 use Rattle.index_spec.specs.Encoding.{pair_row}
-use Rattle.index.specs.Build.{order_list, index_refusal, lent_index, Summary, summary_of}
+use Rattle.index.specs.declared.BuiltIndex.{BuiltIndex}
+use Rattle.index.specs.Build.{order_list, index_refusal, lent_index, summary_of}
 use Rattle.index_spec.specs.Facts.{Holds, no_pair}
 use Rattle.index_order.proofs.OrderLaws.{order-length}
 use Rattle.index_spec.proofs.IndexLaws.{index-is_sound, uncut_loses_none, passed_over_is-reduced, rows-length}
@@ -189,9 +190,9 @@ built-is_own w count atoms L old left r said built says =
     let number = index_refusal w count atoms L old in
     let free = answered number (summary_of (lent_index w count atoms L)) said (sym built.says ∙ says) in
     let none = zero_of number free.free in
-    let fit : Fit w count atoms L = record { rows = (none-refused w count L (length atoms) _ _ _ _ number refl none).atoms } in
+    let fit : Fit w count atoms L = record { rows = (none-refused w count L (length atoms) _ _ _ _ none).atoms } in
     let ps = (lent_index w count atoms L).pairs in
-    let n : length ps ≡ said.pairs = ap (λ (s : Summary). s.pairs) free.is in
+    let n : length ps ≡ said.pairs = ap (λ (s : BuiltIndex). s.pairs) free.is in
     let wide : length (encode pair_row ps) ≡ 16 * said.pairs = rows_long ps (row-long fit) ∙ ap (λ (k : ℕ). 16 * k) n in
     let ordered : length (order_list ps) ≡ said.pairs = order-length (length ps) (encode pair_row ps) ∙ n in
     record {

@@ -1,27 +1,25 @@
 -- What is known where no refusal of a product search applies, and what its answer then says. Assumes nothing.
-use mathlib.Core.Path.{◌≡◌, sym, ap, ◌∙◌}
+use mathlib.Core.Path.{◌≡◌}
 use mathlib.Core.Bool.{◌||◌}
 use mathlib.Core.List.{List}
-use mathlib.Core.Option.{Option}
-use Prim.Native.Nat.{ℕ, ◌/◌, ◌^◌, ◌<◌}
+use Prim.Native.Nat.{ℕ, ◌/◌, ◌^◌}
 use native.Mathlib.Omega.{arith}
 use borrow.Author.Tests.{ltb-false, not-false}
 use lib.Dec.{ltb}
 use lib.ListN.{length, take}
-use Rattle.limits.specs.Refusal.{bad_width, answer, refused}
-use Rattle.limits.proofs.Refusals.{within, passed, neither, enough, unless_refused_lem, unless_not}
+use Rattle.limits.specs.Refusal.{bad_width}
+use Rattle.limits.proofs.Refusals.{within, passed, neither, enough}
 use Rattle.index_order.specs.Order.{is_order}
 use Rattle.search_filter.specs.Refusals.{short_pairs, wrong_order}
 use Rattle.limits.specs.Limits.{too_many_pairs}
 use Rattle.row_lent.specs.Range.{reaches}
 use Rattle.row_lent.proofs.Reaching.{not_reached}
-use Rattle.search_product_trial.specs.Trying.{Product, try_everything}
 use Rattle.search_product_trial.specs.Stages.{Lent}
 use Rattle.search_product_forms.specs.Forms.{Forms}
 use Rattle.search_product_forms.specs.Refusals.{short_forms, bad_atoms, bad_pairs}
 use Rattle.search_product_forms.specs.Written.{Written, Paired}
 use Rattle.search_product_forms.proofs.Forming.{fits_of, written_of, paired_of}
-use Rattle.search_product.specs.Answer.{short_arrays, too_many_or_bad, search_refusal, product}
+use Rattle.search_product.specs.Answer.{short_arrays, too_many_or_bad, search_refusal}
 
 module _ (w count : ℕ) (atoms : List ℕ) (n : ℕ) (listed order target : List ℕ) (f : Forms) where
   -- whatever the target's length is
@@ -66,10 +64,3 @@ module _ (w count : ℕ) (atoms : List ℕ) (n : ℕ) (listed order target : Lis
         written = formulas.0;
         paired = formulas.1;
       }
-
-  pub says-refused : (number : ℕ) → number ≡ search_refusal w count atoms n listed order target f → 0 < number → refused number ≡ product w count atoms n listed order target f
-  says-refused number e h = ap (λ (k : ℕ). refused k) e ∙ sym (unless_refused_lem (search_refusal w count atoms n listed order target f) _ _ (omega arith))
-
-  pub says-found : (found : Option Product) → search_refusal w count atoms n listed order target f ≡ 0 → found ≡ try_everything w count atoms n listed target f
-      → answer found ≡ product w count atoms n listed order target f
-  says-found found none e = ap (λ (o : Option Product). answer o) e ∙ sym (unless_not (search_refusal w count atoms n listed order target f) _ _ none)

@@ -1,12 +1,10 @@
 -- What a product search answers, from its inputs alone. Assumes nothing.
 use Rattle.std.specs.Prelude.{Bool, ◌||◌, List, ℕ, ◌^◌}
-use Rattle.std.proofs.Math.Option.{Option, none, some}
-use Rattle.limits.specs.Refusal.{refuse, bad_width, Outcome, refused, answer, outcome}
+use Rattle.std.proofs.Math.Option.{Option}
+use Rattle.limits.specs.Refusal.{refuse, bad_width, Outcome, outcome}
 use Rattle.search_filter.specs.Refusals.{short_pairs, wrong_order}
 use Rattle.limits.specs.Limits.{too_few_rows, too_many_atoms, too_many_pairs}
 use Rattle.row_lent.specs.Range.{reaches}
-use Rattle.search_product.specs.declared.ProductAnswer.{ProductAnswer}
-use Rattle.search_product.specs.declared.ProductAnswer.TheVariants.{Atoms, AtomPair, Nothing, Refused}
 use Rattle.search_product_forms.specs.Forms.{Forms}
 use Rattle.search_product_forms.specs.Refusals.{short_forms, bad_atoms, bad_pairs}
 use Rattle.search_product_trial.specs.Trying.{Product, try_everything}
@@ -28,13 +26,6 @@ search_refusal w count atoms n listed order target f =
     (refuse (bad_atoms count f) 6
     (refuse (too_many_or_bad count n f) 7
     (refuse (wrong_order n listed order) 8 0)))))
-
--- 01, Expected forms ..: what each case of `ProductAnswer` says: two atom slots, an atom slot and a pair slot, none, or its refusal
-abbrev pub product_says : ProductAnswer → Outcome (Option Product)
-product_says (Atoms a b) = answer (some (Product.of_atoms a.0 b.0))
-product_says (AtomPair a s) = answer (some (Product.of_pair a.0 s.0))
-product_says Nothing = answer none
-product_says (Refused number) = refused number
 
 -- demand 3: on whatever bank and index are lent its answer is the very one that trying everything gives, which keeps the least
 abbrev pub product : ℕ → ℕ → List ℕ → ℕ → List ℕ → List ℕ → List ℕ → Forms → Outcome (Option Product)

@@ -1,14 +1,14 @@
 -- Demand 3, "nothing" is true: the statements. proofs/Nothing has their proofs. Assumes nothing.
-use Rattle.std.specs.Prelude.{◌≡◌, List, ◌↔◌, ℕ, ◌*◌, ◌%◌, ◌^◌, ◌≤◌, ◌<◌, length, get_or, take}
+use Rattle.std.specs.Prelude.{◌≡◌, List, Result, ◌↔◌, ℕ, ◌*◌, ◌%◌, ◌^◌, ◌≤◌, ◌<◌, length, get_or, take}
 use Rattle.std.proofs.Math.Option.{Option, none}
 use Rattle.arrays.specs.Parts.{part_at, encode}
-use Rattle.limits.specs.Refusal.{answer}
+use Rattle.limits.specs.Refusal.{says, answer}
+use Rattle.limits.specs.declared.Refusal.{Refusal}
 use Rattle.row_gates.specs.Gates.{gate_row}
 use Rattle.row_gates.specs.declared.Gate.{Gate}
 use Rattle.probe_points.specs.declared.Point.{Point}
 use Rattle.bank_spec.specs.Encoding as Bank
-use Rattle.bank.specs.declared.BankAnswer.{BankAnswer}
-use Rattle.bank.specs.Build.{BankBuilt, bank_says}
+use Rattle.bank.specs.Build.{BankBuilt}
 use Rattle.index_spec.specs.Index.{rows_of, all_gates, all_pairs}
 use Rattle.index_spec.specs.Encoding.{pair_row}
 use Rattle.index.specs.Build.{order_list, lent_index}
@@ -38,9 +38,9 @@ pub record BuiltBank (count : ℕ) (atoms : List ℕ) : Type 0 where
   pub left : Bank.Arrays
   pub old_work : List ℕ
   pub left_work : List ℕ
-  pub r : BankAnswer
+  pub r : Result ℕ Refusal
   pub build : BankBuilt nv w points target old left old_work left_work r
-  pub says : bank_says r ≡ answer count
+  pub says : says r ≡ answer count
   pub rows_are : left.rows ≡ atoms
 
 -- an index of its own: count, rows and order list are as an index build that wasn't turned back left them, given that bank as the search gets it and the

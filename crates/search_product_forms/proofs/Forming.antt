@@ -25,7 +25,9 @@ use Rattle.expr_cost.specs.Cost.{info_of, info_gate, Roomy}
 use Rattle.expr_cost.proofs.Formulas.{info_gate_lem, cost_roomy}
 use Rattle.search_product_forms.specs.Forms.{Forms, atom_form, pair_form, pair_gate, pair_b, pair_c, gated}
 use Rattle.search_product_forms.specs.Refusals.{some_below, short_forms, bad_atom, bad_atoms, bad_pair, bad_pairs}
-use Rattle.search_product_forms.specs.Written.{forms, Room, Written, Paired}
+use Rattle.search_product_forms.specs.Written.{Room, Written, Paired}
+use Rattle.search_product_forms.specs.Lent.{forms_of, forms_with}
+use Rattle.search_product_forms.specs.declared.inner.LentForms.{LentForms}
 
 -- the tokens that are lent are atom k's
 pub form-is : (f : Forms) (k : ℕ) → tokens (get_or f.lengths k 0) (take (6 * k + 6 - 6 * k) (drop (6 * k) f.ops)) (take (6 * k + 6 - 6 * k) (drop (6 * k) f.operands)) ≡ atom_form f k
@@ -47,13 +49,13 @@ none_below n test e = up_none test n (sym (nothing (first_that test (count_up 0 
 
 -- ---- formulas that no refusal turns back
 -- whatever the pairs are
-pub form_any : (lengths ops operands pairs others : List ℕ) (k : ℕ) → atom_form (forms lengths ops operands pairs) k ≡ atom_form (forms lengths ops operands others) k
+pub form_with : (f : LentForms) (pairs : List ℕ) (k : ℕ) → atom_form (forms_of f) k ≡ atom_form (forms_with f pairs) k
 unfolding atom_form
-form_any lengths ops operands pairs others k = refl
+form_with f pairs k = refl
 
-pub written_any : (count : ℕ) (lengths ops operands pairs others : List ℕ) → Written count (forms lengths ops operands pairs) → Written count (forms lengths ops operands others)
+pub written_with : (f : LentForms) (pairs : List ℕ) → Written f.count (forms_of f) → Written f.count (forms_with f pairs)
 unfolding atom_form
-written_any count lengths ops operands pairs others w = record {
+written_with f pairs w = record {
   room = record { lengths = w.room.lengths; ops = w.room.ops; operands = w.room.operands };
   few = w.few;
   short = w.short;
@@ -115,10 +117,6 @@ module _ {count : ℕ} {f : Forms} (w : Written count f) where
     pair-short = omega (arith, gated-length b c (gate_at (pair_gate f s)), atom-short (pair_b f s) (p.b-below s h), atom-short (pair_c f s) (p.c-below s h))
 
 -- ---- what no refusal turns back
-pub bad_any : (count : ℕ) (lengths ops operands pairs others : List ℕ) → bad_atoms count (forms lengths ops operands pairs) ≡ bad_atoms count (forms lengths ops operands others)
-unfolding atom_form
-bad_any count lengths ops operands pairs others = refl
-
 module _ (count n : ℕ) (f : Forms) where
   -- arrays that are long enough
   pub record Fits : Type 0 where

@@ -2,3 +2,4 @@
 pub mod Forms
 pub mod Refusals
 pub mod Written
+pub mod Lent

@@ -1,15 +1,11 @@
 -- Formulas that no refusal turns back, as the contracts of the search have them. Assumes nothing.
-use Rattle.std.specs.Prelude.{◌≡◌, true, List, [], ℕ, ◌*◌, ◌≤◌, ◌<◌, length, get_or}
+use Rattle.std.specs.Prelude.{◌≡◌, true, List, ℕ, ◌*◌, ◌≤◌, ◌<◌, length, get_or}
 use Rattle.expr.specs.Formula.{is_formula}
 use Rattle.search_product_forms.specs.Forms.{Forms, atom_form, pair_b, pair_c}
 
 -- the four arrays
 abbrev pub forms : List ℕ → List ℕ → List ℕ → List ℕ → Forms
 forms lengths ops operands pairs = record { lengths = lengths; ops = ops; operands = operands; pairs = pairs }
-
--- the atoms alone
-abbrev pub atom_forms : List ℕ → List ℕ → List ℕ → Forms
-atom_forms lengths ops operands = forms lengths ops operands []
 
 -- arrays long enough for `count` atoms
 pub record Room (count : ℕ) (f : Forms) : Type 0 where

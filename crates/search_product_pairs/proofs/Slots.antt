@@ -83,8 +83,3 @@ module _ (f : Forms) (test : Product → Bool) (a : ℕ) (best r : Best) where
       let m : j - 0 ≡ n = omega arith in
       subst (λ (l : List Product). Tried f test l best r)
       (ap (λ (k : ℕ). map (at_place a order) (count_up 0 k)) m ∙ sym (take_places (Product.of_pair a) order n fit)) t
-
-  pub slots-all : (n j : ℕ) → j ≡ n → TriedTo f test (Product.of_pair a) 0 j best r → Tried f test (map (Product.of_pair a) (count_up 0 n)) best r
-  slots-all n j e t =
-      let m : j - 0 ≡ n = omega arith in
-      subst (λ (k : ℕ). Tried f test (map (Product.of_pair a) (count_up 0 k)) best r) m t

@@ -24,7 +24,7 @@ use Rattle.search_product_forms.proofs.Forming.{form-length, gated-passes, gated
 use Rattle.search_product_trial.specs.declared.inner.Found.{Found}
 use Rattle.search_product_trial.specs.declared.inner.Best.{Best}
 use Rattle.search_product_trial.specs.Trying.{Product, fitting, product_form, product_cost, cheaper}
-use Rattle.search_product_trial.specs.Stages.{found_says, none_cost, best_of, Keeps, Offered, Tried}
+use Rattle.search_product_trial.specs.Stages.{product_of, found_says, none_cost, best_of, Keeps, Offered, Tried}
 use Rattle.search_product_trial.specs.Steps.{fits_at}
 
 -- ---- the cost order ranks the trials
@@ -75,14 +75,6 @@ module _ {count : ℕ} {f : Forms} (w : Written count f) (a : ℕ) (ha : a < cou
     unfolding product_cost product_form
     pair-product-cost = ap (λ (i : CostInfo). i.cost) (gated_info (atom_form f a) (pair_form f s) Mul (w.formula a ha) (pair-formula w p s hs))
 
--- ---- a cost is compared
-module _ (found : Found) (best : Best) (c d : Cost) (is : c ≡ d) where
-  pub compared_better : is_better c best.cost ≡ true → best_of found c ≡ cond (is_better d best.cost) (best_of found d) best
-  compared_better y = ap (best_of found) is ∙ ap (λ (b : Bool). cond b (best_of found d) best) (sym (ap (λ (x : Cost). is_better x best.cost) (sym is) ∙ y))
-
-  pub compared_not : is_better c best.cost ≡ false → best ≡ cond (is_better d best.cost) (best_of found d) best
-  compared_not n = ap (λ (b : Bool). cond b (best_of found d) best) (sym (ap (λ (x : Cost). is_better x best.cost) (sym is) ∙ n))
-
 -- ---- one trial
 module _ (f : Forms) (x : Product) where
   -- one that is too dear changes nothing
@@ -99,7 +91,7 @@ module _ (f : Forms) (x : Product) where
       (sym (dear_stays test o best k (sized_roomy f x tokens s) (omega (arith, sized-size f x tokens s)))) k
 
   -- one whose cost is compared
-  pub offered_or : (found : Found) (cost : Cost) (best r : Best) → found_says found ≡ some x → cost ≡ product_cost f x → Roomy (product_cost f x)
+  pub offered_or : (found : Found) (cost : Cost) (best r : Best) → product_of found ≡ x → cost ≡ product_cost f x → Roomy (product_cost f x)
       → r ≡ cond (is_better cost best.cost) (best_of found cost) best → Offered f x best r
   unfolding cheaper
   offered_or found cost best r says is roomy e test o t k = elim (bool_cases (is_better cost best.cost)) [
@@ -111,7 +103,7 @@ module _ (f : Forms) (x : Product) where
       than y k = ap₂ is_better is k.cost
 
       holds : r ≡ best_of found cost → Keeps f (some x) r
-      holds q = record { says = ap (λ (b : Best). found_says b.found) q ∙ says; cost = ap (λ (b : Best). b.cost) q ∙ is }
+      holds q = record { says = ap (λ (b : Best). found_says b.found) q ∙ ap (λ (p : Product). some p) says; cost = ap (λ (b : Best). b.cost) q ∙ is }
 
       taken : (o : Option Product) → Keeps f o best → r ≡ best_of found cost → is_better cost best.cost ≡ true → Keeps f (kept test (cheaper f) o x) r
       taken none k q y = subst (λ (p : Option Product). Keeps f p r) (sym (kept-first test (cheaper f) x t)) (holds q)

@@ -64,10 +64,6 @@ module _ (w : ℕ) (target xs ys : List ℕ) (a b : ℕ) (ok : Target w target) 
       is_false (fits_at w target xs a ys b)
       (λ f. n (e ∙ ap (λ (m : ℕ). (get_or xs (16 * a + j) 0 * get_or ys (16 * b + j) 0) % m) (modulus-is w ok.width) ∙ fits-lane f j h))
 
-  -- the product that the program computes is the word's
-  pub lane-is : (j p : ℕ) → p ≡ (get_or xs (16 * a + j) 0 * get_or ys (16 * b + j) 0) % modulus w → p ≡ get_or target j 0 → lane w xs a ys b j ≡ get_or target j 0
-  lane-is j p e q = ap (λ (m : ℕ). (get_or xs (16 * a + j) 0 * get_or ys (16 * b + j) 0) % m) (sym (modulus-is w ok.width)) ∙ sym e ∙ q
-
   -- what fits solves each word's equation
   pub fits-solves : fits_at w target xs a ys b ≡ true → (j p : ℕ) → j < 16 → p ≡ get_or xs (16 * a + j) 0 % modulus w → solves w p (get_or target j 0) (get_or ys (16 * b + j) 0) ≡ true
   unfolding solves

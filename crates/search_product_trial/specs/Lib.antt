@@ -2,4 +2,5 @@
 pub mod Trying
 pub mod Stages
 pub mod Steps
+pub mod Searches
 pub mod Cases

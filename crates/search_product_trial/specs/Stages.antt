@@ -1,5 +1,6 @@
 -- The stages of a product search and what they keep, as the contracts of src/inner.rt have them; a reader of demand 3 needs Trying alone. Assumes nothing.
-use Rattle.std.specs.Prelude.{◌≡◌, Bool, true, List, ℕ, ◌*◌, ◌^◌, ◌≤◌, ◌<◌, length, get_or}
+use Rattle.std.specs.Prelude as std
+use Rattle.std.specs.Prelude.{◌≡◌, Bool, true, List, ℕ, ◌*◌, ◌^◌, ◌≤◌, ◌<◌, length, get_or, Some, None}
 use Rattle.std.proofs.Math.Option.{Option, none, some}
 use Rattle.arrays.specs.Least.{kept, keep_least}
 use Rattle.limits.specs.Limits.{atoms_max}
@@ -8,7 +9,7 @@ use Rattle.search_filter.specs.Places.{Ordered}
 use Rattle.search_product_forms.specs.Forms.{Forms}
 use Rattle.search_product_forms.specs.Written.{Written, Paired}
 use Rattle.search_product_trial.specs.declared.inner.Found.{Found}
-use Rattle.search_product_trial.specs.declared.inner.Found.TheVariants.{Atoms, AtomPair, Nothing}
+use Rattle.search_product_trial.specs.declared.inner.Found.TheVariants.{Atoms, AtomPair}
 use Rattle.search_product_trial.specs.declared.inner.Best.{Best}
 use Rattle.search_product_trial.specs.Trying.{Product, product_cost, cheaper}
 
@@ -24,11 +25,15 @@ pub record Lent (w count : ℕ) (atoms : List ℕ) (n : ℕ) (listed order targe
   pub written : Written count f
   pub paired : Paired count n f
 
--- what each case of `Found` says. 01, Product search: two atom slots, an atom slot and a pair slot, or none
-abbrev pub found_says : Found → Option Product
-found_says (Atoms a b) = some (Product.of_atoms a.0 b.0)
-found_says (AtomPair a s) = some (Product.of_pair a.0 s.0)
-found_says Nothing = none
+-- what each case of `Found` says. 01, Product search: two atom slots, or an atom slot and a pair slot
+abbrev pub product_of : Found → Product
+product_of (Atoms a b) = Product.of_atoms a.0 b.0
+product_of (AtomPair a s) = Product.of_pair a.0 s.0
+
+-- .. or none
+abbrev pub found_says : std.Option Found → Option Product
+found_says None = none
+found_says (Some found) = some (product_of found)
 
 -- nothing counts as dearer than every formula; `NO_SIZE` of src/inner.rt is the same number
 abbrev pub none_cost : Cost
@@ -40,7 +45,7 @@ kept_cost f (some x) = product_cost f x
 
 -- a product and its cost
 abbrev pub best_of : Found → Cost → Best
-best_of found cost = record { found = found; cost = cost }
+best_of found cost = record { found = Some found; cost = cost }
 
 -- what is kept, with its cost
 pub record Keeps (f : Forms) (o : Option Product) (best : Best) : Type 0 where

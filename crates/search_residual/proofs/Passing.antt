@@ -1,19 +1,17 @@
 -- What is known where no refusal of a residual search applies, and what its answer then says. Assumes nothing.
-use mathlib.Core.Path.{◌≡◌, sym, ap, ◌∙◌}
+use mathlib.Core.Path.{◌≡◌}
 use mathlib.Core.Bool.{◌||◌}
 use mathlib.Core.List.{List}
-use mathlib.Core.Option.{Option}
-use Prim.Native.Nat.{ℕ, ◌/◌, ◌^◌, ◌<◌}
+use Prim.Native.Nat.{ℕ, ◌/◌, ◌^◌}
 use native.Mathlib.Omega.{arith}
 use borrow.Author.Tests.{ltb-false}
 use lib.Dec.{ltb}
 use lib.ListN.{length}
-use Rattle.limits.specs.Refusal.{bad_width, answer, refused}
-use Rattle.limits.proofs.Refusals.{within, passed, neither, enough, unless_refused_lem, unless_not}
+use Rattle.limits.specs.Refusal.{bad_width}
+use Rattle.limits.proofs.Refusals.{within, passed, neither, enough}
 use Rattle.row_lent.specs.Range.{reaches}
 use Rattle.row_lent.proofs.Reaching.{not_reached}
-use Rattle.search_residual_trial.specs.Trying.{Completion, try_residuals}
-use Rattle.search_residual.specs.Answer.{residual_refusal, completion}
+use Rattle.search_residual.specs.Answer.{residual_refusal}
 use Rattle.search_residual.specs.Told.{Lent}
 
 module _ (w count : ℕ) (atoms : List ℕ) (n : ℕ) (listed target : List ℕ) where
@@ -34,10 +32,3 @@ module _ (w count : ℕ) (atoms : List ℕ) (n : ℕ) (listed target : List ℕ)
         long = long;
         reduced = λ j h. not_reached (2 ^ w) target low.0 j (omega (arith, long));
       }
-
-  pub says-refused : (number : ℕ) → number ≡ residual_refusal w count atoms n listed target → 0 < number → refused number ≡ completion w count atoms n listed target
-  says-refused number e h = ap (λ (k : ℕ). refused k) e ∙ sym (unless_refused_lem (residual_refusal w count atoms n listed target) _ _ (omega arith))
-
-  pub says-found : (found : Option Completion) → residual_refusal w count atoms n listed target ≡ 0 → found ≡ try_residuals w count atoms n listed target
-      → answer found ≡ completion w count atoms n listed target
-  says-found found none e = ap (λ (f : Option Completion). answer f) e ∙ sym (unless_not (residual_refusal w count atoms n listed target) _ _ none)

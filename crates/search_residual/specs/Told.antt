@@ -9,8 +9,7 @@ use Rattle.search_residual_trial.specs.Trying.{Completion}
 use Rattle.search_residual_map.specs.declared.First.{First}
 use Rattle.search_residual.specs.declared.inner.Part.{Part}
 use Rattle.search_residual.specs.declared.inner.Part.TheVariants.{Atom, Pair}
-use Rattle.search_residual.specs.declared.inner.Lookup.{Lookup}
-use Rattle.search_residual.specs.declared.inner.Lookup.TheVariants.{At, Missing}
+use Rattle.std.specs.Prelude as Std
 
 -- what no refusal turns back
 pub record Lent (w count : ℕ) (atoms : List ℕ) (n : ℕ) (listed target : List ℕ) : Type 0 where
@@ -22,14 +21,14 @@ pub record Lent (w count : ℕ) (atoms : List ℕ) (n : ℕ) (listed target : Li
   pub long : length target ≡ 16
   pub reduced : (j : ℕ) → j < 16 → get_or target j 0 < 2 ^ w
 
--- what each case of `Part` and of `Lookup` says of atom a under g
+-- what each case of `Part`, and a lookup, says of atom a under g
 abbrev pub part_says : Gate → ℕ → Part → Completion
 part_says g a (Atom b) = Completion.of_atoms g a b.0
 part_says g a (Pair s) = Completion.of_pair g a s.0
 
-abbrev pub lookup_says : Gate → ℕ → Lookup → Option Completion
-lookup_says g a (At part) = some (part_says g a part)
-lookup_says g a Missing = none
+abbrev pub lookup_says : Gate → ℕ → Std.Option Part → Option Completion
+lookup_says g a (Std.Some part) = some (part_says g a part)
+lookup_says g a Std.None = none
 
 -- 02, 2.1: first in the bank, then in the index. What the passes over them tell of the residual row with this entry, which is that of atom a under g
 abbrev pub told : Gate → ℕ → ℕ → First → First → Option Completion

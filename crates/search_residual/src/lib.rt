@@ -4,20 +4,12 @@
 pub mod inner;
 
 ghost use Rattle.std.specs.Prelude.{◌≡◌};
-ghost use Rattle.search_residual.specs.Answer.{residual_says, completion};
+ghost use Rattle.limits.specs.Refusal.{says_by};
+ghost use Rattle.search_residual_trial.specs.Steps.{found_says};
+ghost use Rattle.search_residual.specs.Answer.{completion};
 
-use row_gates::Gate;
-use row_lent::{AtomSlot, PairSlot};
-use search_residual_trial::inner::Found;
-
-// 02, 2.1: the outer gate and both parts named, two atom slots or an atom slot and a pair slot; or none; or the refusal.
-#[derive(Clone, Copy)]
-pub enum ResidualAnswer {
-    Atoms(Gate, AtomSlot, AtomSlot),
-    AtomPair(Gate, AtomSlot, PairSlot),
-    Nothing,
-    Refused(u32),
-}
+use limits::Refusal;
+use search_residual_trial::inner::{Found, Search};
 
 // Finds the first atom that an atom, itself or another, or a listed pair completes to the target, under Xor, then under Add; in 02's order. Refuses 2, 4, 5, 7.
 pub fn residual_search(
@@ -27,16 +19,15 @@ pub fn residual_search(
     pair_count: usize,
     pair_rows: &[u64],
     target: [u64; 16],
-) -> ResidualAnswer
-    ensures { residual_says result ≡ completion w atom_count atom_rows.now pair_count pair_rows.now target }
+) -> Result<Option<Found>, Refusal>
+    ensures { says_by found_says result ≡ completion w atom_count atom_rows.now pair_count pair_rows.now target }
 {
-    let refusal = inner::residual_refusal(w, atom_count, atom_rows, pair_count, pair_rows, target);
-    if refusal != 0 {
-        return ResidualAnswer::Refused(refusal);
-    }
-    match inner::search_rows(atom_rows, atom_count, pair_rows, pair_count, target, w) {
-        Found::Atoms(g, a, b) => ResidualAnswer::Atoms(g, a, b),
-        Found::AtomPair(g, a, s) => ResidualAnswer::AtomPair(g, a, s),
-        Found::Nothing => ResidualAnswer::Nothing,
-    }
+    let search = Search {
+        w,
+        count: atom_count,
+        atoms: atom_rows,
+        target,
+    };
+    inner::check(&search, pair_rows, pair_count)?;
+    Ok(inner::search_rows(&search, pair_rows, pair_count))
 }

@@ -1,8 +1,9 @@
 -- The map of the residual rows, as the contracts of src/inner.rt have it. Where a row is looked for depends on it, what is found doesn't. Assumes nothing.
-use Rattle.std.specs.Prelude.{◌≡◌, ℕ, suc, ◌+◌, ◌*◌, ◌/◌, ◌%◌, ◌^◌, ◌<◌, ◌≤◌, true, false, List, [], ◌∷◌, length, bit_xor}
+use Rattle.std.specs.Prelude.{◌≡◌, ℕ, suc, ◌+◌, ◌*◌, ◌/◌, ◌%◌, ◌^◌, ◌<◌, ◌≤◌, Bool, true, false, List, [], ◌∷◌, length, bit_xor}
 use Rattle.limits.specs.Limits.{atoms_max}
 use Rattle.row_map.specs.Map.{Chained}
 use Rattle.search_residual_trial.specs.Steps.{wanted, same}
+use Rattle.search_residual_trial.specs.declared.inner.Search.{Search}
 
 -- `MIX` of src/inner.rt is the same number
 abbrev pub mixer : ℕ
@@ -58,3 +59,19 @@ pub record Best (w count : ℕ) (atoms target rows : List ℕ) (n beaten entry f
   pub most : entry ≤ 2 * count
   pub none : (t : ℕ) → entry ≤ t → t < 2 * count → (s : ℕ) → s < n → same w count atoms target rows t s ≡ false
   pub hit : (t : ℕ) → entry ≡ suc t → beaten ≤ t → LeastSlot w count atoms target rows n t found
+
+-- ---- the same of a search's own width, count, atoms and target
+abbrev pub IsAsked : Search → Type 0
+IsAsked search = Asked search.w search.count search.atoms.now search.target
+
+abbrev pub HasWanted : Search → List ℕ → ℕ → Type 0
+HasWanted search work n = Wanted search.w search.count search.atoms.now search.target work n
+
+abbrev pub same_by : Search → List ℕ → ℕ → ℕ → Bool
+same_by search rows t slot = same search.w search.count search.atoms.now search.target rows t slot
+
+abbrev pub ReadBy : Search → List ℕ → ℕ → ℕ → ℕ → Type 0
+ReadBy search rows slot beaten entry = Read search.w search.count search.atoms.now search.target rows slot beaten entry
+
+abbrev pub BestBy : Search → List ℕ → ℕ → ℕ → ℕ → ℕ → Type 0
+BestBy search rows n beaten entry found = Best search.w search.count search.atoms.now search.target rows n beaten entry found

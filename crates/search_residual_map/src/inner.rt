@@ -2,11 +2,12 @@
 // first. No residual row is stored: what a row is compared with is worked out again.
 ghost use Rattle.std.specs.Prelude.{◌≡◌, ◌+◌, ◌*◌, ◌^◌, ◌<◌, ◌≤◌, length, slice_index};
 ghost use Rattle.arrays.specs.Parts.{part_at};
-ghost use Rattle.search_residual_trial.specs.Steps.{outer_at, atom_at, wanted, same};
-ghost use Rattle.search_residual_map.specs.Map.{swapped_of, mixed, home_of, Asked, Wanted, Read, Best};
+ghost use Rattle.search_residual_trial.specs.Steps.{outer_at, atom_at, wanted};
+ghost use Rattle.search_residual_map.specs.Map.{swapped_of, mixed, home_of, Asked, IsAsked, HasWanted, same_by, ReadBy, BestBy};
 
 use crate::First;
 use row_gates::{Gate, ROW_WORDS};
+use search_residual_trial::inner::Search;
 
 // There are 2^12 chains.
 const HOME_BITS: u32 = 12;
@@ -22,7 +23,7 @@ const WORD_PAIRS: usize = 8;
 fn swapped(x: u64) -> u64
     ensures { result ≡ swapped_of x }
 {
-    std::num::wrapping_add_u64(x << 32, x >> 32)
+    x.rotate_left(32)
 }
 
 // The sum of a row's words, two by two, times powers of the constant.
@@ -33,12 +34,10 @@ fn mix_row(rows: &[u64], slot: usize) -> u64
     let base = ROW_WORDS * slot;
     let mut sum: u64 = 0;
     let mut power: u64 = MIX;
-    let mut i: usize = 0;
-    while i < WORD_PAIRS {
+    for i in 0..WORD_PAIRS {
         let word = rows[base + 2 * i] ^ swapped(rows[base + 2 * i + 1]);
         sum = std::num::wrapping_add_u64(sum, arith::wrapping_mul(word, power));
         power = arith::wrapping_mul(power, MIX);
-        i += 1;
     }
     sum
 }
@@ -81,57 +80,44 @@ fn wanted_home(atoms: &[u64], count: usize, target: [u64; 16], w: u32, t: usize)
 }
 
 // Takes all residual rows into the map, whose area is all zeros before.
-pub fn fill(work: &mut [u32], atoms: &[u64], count: usize, target: [u64; 16], w: u32)
-    requires { Asked w count atoms.now target × Wanted w count atoms.now target work.old 0 }
-    ensures { Wanted w count atoms.now target work.new (2 * count) }
+pub fn fill(work: &mut [u32], search: &Search<'_>)
+    requires { IsAsked search.now × HasWanted search.now work.old 0 }
+    ensures { HasWanted search.now work.new (2 * search.now.count) }
 {
-    let end = 2 * count;
-    let mut t: usize = 0;
-    while t < end {
+    // out of the struct once: a row's chain takes the target by value
+    let Search {
+        w,
+        count,
+        atoms,
+        target,
+    } = *search;
+    for t in 0..2 * count {
         let home = wanted_home(atoms, count, target, w, t);
         row_map::inner::insert(work, HOME_BITS, t, home);
-        t += 1;
     }
 }
 
 // Whether row `slot` is residual row t.
-fn is_wanted(
-    atoms: &[u64],
-    count: usize,
-    target: &[u64],
-    w: u32,
-    rows: &[u64],
-    slot: usize,
-    t: usize,
-) -> bool
-    requires { Asked w count atoms.now target.now × (t < 2 * count) × (16 * slot + 16 ≤ length rows.now) }
-    ensures { result ≡ same w count atoms.now target.now rows.now t slot }
+fn is_wanted(search: &Search<'_>, t: usize, rows: &[u64], slot: usize) -> bool
+    requires { IsAsked search.now × (t < 2 * search.now.count) × (16 * slot + 16 ≤ length rows.now) }
+    ensures { result ≡ same_by search.now rows.now t slot }
 {
-    let a = atom_at(count, t);
-    let g = outer_at(count, t);
-    search_residual_trial::inner::completes(rows, slot, atoms, a, target, g, w)
+    let a = atom_at(search.count, t);
+    let g = outer_at(search.count, t);
+    search_residual_trial::inner::completes(search, a, g, rows, slot)
 }
 
 // The entry of the first trial whose residual row is row `slot`, if it is above `beaten`, an earlier trial's than that; else `beaten`. The chain begins at `head`.
-fn walk(
-    work: &[u32],
-    head: u32,
-    beaten: u32,
-    atoms: &[u64],
-    count: usize,
-    target: &[u64],
-    w: u32,
-    rows: &[u64],
-    slot: usize,
-) -> u32
-    requires asked { Asked w count atoms.now target.now × Wanted w count atoms.now target.now work.now (2 * count) × (16 * slot + 16 ≤ length rows.now) × (beaten ≤ 2 * count) }
+fn walk(search: &Search<'_>, work: &[u32], head: u32, beaten: u32, rows: &[u64], slot: usize) -> u32
+    requires asked { IsAsked search.now × HasWanted search.now work.now (2 * search.now.count) × (16 * slot + 16 ≤ length rows.now) × (beaten ≤ 2 * search.now.count) }
     requires head_value { head ≡ slice_index work.now (home_of (part_at 16 rows.now slot)) }
-    ensures { Read w count atoms.now target.now rows.now slot beaten result }
+    ensures { ReadBy search.now rows.now slot beaten result }
 {
     let mut entry = head;
+    // no count: the next place is told by the chain
     while beaten < entry {
         let t = (entry - 1) as usize;
-        if is_wanted(atoms, count, target, w, rows, slot, t) {
+        if is_wanted(search, t, rows, slot) {
             return entry;
         }
         entry = work[HEADS + t];
@@ -140,35 +126,23 @@ fn walk(
 }
 
 // One pass over the first n rows for all residual rows: the entry of the first trial whose residual row is among them, if it is above `beaten`, and the least slot that has it; else `beaten`.
-pub fn first_of(
-    work: &[u32],
-    beaten: u32,
-    atoms: &[u64],
-    count: usize,
-    target: &[u64],
-    w: u32,
-    rows: &[u64],
-    n: usize,
-) -> First
-    requires { Asked w count atoms.now target.now × Wanted w count atoms.now target.now work.now (2 * count) × (16 * n ≤ length rows.now) × (n ≤ 262144) × (beaten ≤ 2 * count) }
-    ensures { Best w count atoms.now target.now rows.now n beaten result.at result.slot }
+pub fn first_of(search: &Search<'_>, work: &[u32], beaten: u32, rows: &[u64], n: usize) -> First
+    requires { IsAsked search.now × HasWanted search.now work.now (2 * search.now.count) × (16 * n ≤ length rows.now) × (n ≤ 262144) × (beaten ≤ 2 * search.now.count) }
+    ensures { BestBy search.now rows.now n beaten result.at result.slot }
 {
-    let end = 2 * count as u32;
+    let end = 2 * search.count as u32;
     let mut at = beaten;
     let mut found: u32 = 0;
-    let mut slot: usize = 0;
-    while slot < n {
+    for slot in 0..n {
         if at == end {
             return First { at, slot: found };
         }
         let home = home_of(rows, slot);
         let head = work[home as usize];
-        let entry = walk(work, head, at, atoms, count, target, w, rows, slot);
-        let row = slot;
-        slot += 1;
+        let entry = walk(search, work, head, at, rows, slot);
         if at < entry {
             at = entry;
-            found = row as u32;
+            found = slot as u32;
         }
     }
     First { at, slot: found }

@@ -3,7 +3,8 @@
 
 pub mod inner;
 
-// The entry of a residual row, which is its number plus one, and the least slot that has it; entry 0 where none was found.
+// The entry of a residual row, which is its number plus one, and the least slot that has it; entry 0 where none was found: it ends the map's chains, and is
+// below every other, so that a pass needs one comparison.
 #[derive(Clone, Copy)]
 pub struct First {
     pub at: u32,

@@ -7,7 +7,8 @@ use Rattle.row_gates.specs.Gates.{same_row}
 use Rattle.row_gates.specs.declared.Gate.{Gate}
 use Rattle.row_gates.specs.declared.Gate.TheVariants.{Xor, Add}
 use Rattle.search_residual_trial.specs.declared.inner.Found.{Found}
-use Rattle.search_residual_trial.specs.declared.inner.Found.TheVariants.{Atoms, AtomPair, Nothing}
+use Rattle.search_residual_trial.specs.declared.inner.Found.TheVariants.{Atoms, AtomPair}
+use Rattle.std.specs.Prelude as Std
 use Rattle.search_residual_trial.specs.Trying.{Completion, completing}
 
 -- the outer gate and the atom of residual row t
@@ -26,8 +27,11 @@ unfoldable pub same : ℕ → ℕ → List ℕ → List ℕ → List ℕ → ℕ
 unfolding same_row part_at wanted
 same w count atoms target rows t s = same_row (part_at 16 rows s) (wanted w count atoms target t)
 
--- what each case of `Found` says
-abbrev pub found_says : Found → Option Completion
-found_says (Atoms g a b) = some (Completion.of_atoms g a.0 b.0)
-found_says (AtomPair g a s) = some (Completion.of_pair g a.0 s.0)
-found_says Nothing = none
+-- what a hit says, and what one or none does
+abbrev pub hit_says : Found → Completion
+hit_says (Atoms g a b) = Completion.of_atoms g a.0 b.0
+hit_says (AtomPair g a s) = Completion.of_pair g a.0 s.0
+
+abbrev pub found_says : Std.Option Found → Option Completion
+found_says (Std.Some hit) = some (hit_says hit)
+found_says Std.None = none

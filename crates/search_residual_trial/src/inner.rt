@@ -7,35 +7,35 @@ ghost use Rattle.search_residual_trial.specs.Trying.{completing};
 use row_gates::{Gate, ROW_WORDS};
 use row_lent::{AtomSlot, PairSlot};
 
-// The first completion that hits.
+// A completion that hits: its outer gate and both parts. Not the product search's answer, whose gate is always the product's.
 #[derive(Clone, Copy)]
 pub enum Found {
     Atoms(Gate, AtomSlot, AtomSlot),
     AtomPair(Gate, AtomSlot, PairSlot),
-    Nothing,
+}
+
+// What is searched for, and among which atoms: the first `count` of their rows. Passed by `&`: it holds the target's row.
+#[derive(Clone, Copy)]
+pub struct Search<'a> {
+    pub w: u32,
+    pub count: usize,
+    pub atoms: &'a [u64],
+    pub target: [u64; 16],
 }
 
 // Whether row `slot` of lent rows completes atom a to the target. Stops at the first word that doesn't.
-pub fn completes(
-    rows: &[u64],
-    slot: usize,
-    atoms: &[u64],
-    a: usize,
-    target: &[u64],
-    g: Gate,
-    w: u32,
-) -> bool
-    requires { (16 * slot + 16 ≤ length rows.now) × (16 * a + 16 ≤ length atoms.now) × (length target.now ≡ 16) × (w ≤ 64) }
-    ensures { result ≡ same_row (part_at 16 rows.now slot) (completing g w target.now atoms.now a) }
+pub fn completes(search: &Search<'_>, a: usize, g: Gate, rows: &[u64], slot: usize) -> bool
+    requires { (16 * slot + 16 ≤ length rows.now) × (16 * a + 16 ≤ length search.now.atoms.now) × (length search.now.target ≡ 16) × (search.now.w ≤ 64) }
+    ensures { result ≡ same_row (part_at 16 rows.now slot) (completing g search.now.w search.now.target search.now.atoms.now a) }
 {
+    let atoms = search.atoms;
+    let w = search.w;
     let x = ROW_WORDS * slot;
     let y = ROW_WORDS * a;
-    let mut j: usize = 0;
-    while j < ROW_WORDS {
-        if rows[x + j] != row_gates::inner::residual_lane(target[j], atoms[y + j], g, w) {
+    for j in 0..ROW_WORDS {
+        if rows[x + j] != row_gates::inner::residual_lane(search.target[j], atoms[y + j], g, w) {
             return false;
         }
-        j += 1;
     }
     true
 }

@@ -6,18 +6,24 @@ use native.Mathlib.Omega.{arith}
 use lib.ListN.{length}
 use Rattle.text_parse.specs.declared.Parse.{Parse}
 use Rattle.text_parse.specs.Reading.{Reads}
-use Rattle.listing.specs.declared.ListingAnswer.{ListingAnswer}
-use Rattle.listing.specs.Listing.{listing_says, Listed}
+use Rattle.std.specs.Prelude.{Result}
+use Rattle.limits.specs.declared.Refusal.{Refusal}
+use Rattle.limits.specs.Refusal.{says}
+use Rattle.listing.specs.Listing.{Listed}
 use Rattle.simjaldek_abi.specs.declared.TextReply.{TextReply}
 use Rattle.simjaldek_abi.specs.Reply.{text_reply}
 use Rattle.simjaldek.specs.Beside.{Texted}
 
 -- the answer by numbers
-abbrev pub answer_text : ListingAnswer → TextReply
-answer_text call = text_reply (listing_says call)
+abbrev pub answer_text : Result ℕ Refusal → TextReply
+answer_text call = text_reply (says call)
+
+-- that of a refusal
+abbrev pub refused_text : ℕ → TextReply
+refused_text n = record { refusal = n; length = 0 }
 
 -- what a listing of a reading promises it promises of the text that was read
-pub texted : (text out out' : List ℕ) (p : Parse) (call : ListingAnswer) (r : TextReply)
+pub texted : (text out out' : List ℕ) (p : Parse) (call : Result ℕ Refusal) (r : TextReply)
     → (length text < 2 ^ 64 → Reads p text)
     → Listed p out out' call
     → r ≡ answer_text call

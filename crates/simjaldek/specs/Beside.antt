@@ -1,14 +1,14 @@
 -- What the exports promise that write into lent arrays beside their reply. Assumes nothing.
-use Rattle.std.specs.Prelude.{◌≡◌, List, ℕ, ◌+◌, ◌≤◌, ◌<◌, ◌^◌, length}
-use Rattle.limits.specs.Refusal.{refused, answer}
+use Rattle.std.specs.Prelude as std
+use Rattle.std.specs.Prelude.{◌≡◌, Result, List, ℕ, ◌+◌, ◌≤◌, ◌<◌, ◌^◌, length}
+use Rattle.limits.specs.Refusal.{refused, says, says_by, answer}
+use Rattle.limits.specs.declared.Refusal.{Refusal}
 use Rattle.probe_points.specs.declared.Point.{Point}
 use Rattle.bank_spec.specs.Encoding as bank
-use Rattle.bank.specs.declared.BankAnswer.{BankAnswer}
-use Rattle.bank.specs.Build.{BankBuilt, bank_says}
-use Rattle.index.specs.declared.IndexAnswer.{IndexAnswer}
-use Rattle.index.specs.Build.{Arrays, IndexBuilt, index_says}
-use Rattle.search_candidates.specs.declared.CandidatesAnswer.{CandidatesAnswer}
-use Rattle.search_candidates.specs.Candidates.{Collected, candidates_say}
+use Rattle.bank.specs.Build.{BankBuilt}
+use Rattle.index.specs.declared.BuiltIndex.{BuiltIndex}
+use Rattle.index.specs.Build.{Arrays, IndexBuilt}
+use Rattle.search_candidates.specs.Candidates.{Collected, counted}
 use Rattle.text_print.specs.Printing.{Wrote, text_max}
 use Rattle.listing.specs.Listing.{listing}
 use Rattle.simjaldek_abi.specs.declared.Reply.{Reply}
@@ -18,21 +18,21 @@ use Rattle.simjaldek_abi.specs.Reply.{refused_reply, option_reply, number_reply,
 
 -- 01, Agreed: the result and the final contents of every array: an answer of `build_index` with its own promise, and the reply is that answer by numbers
 pub record Indexed (w count : ℕ) (rows : List ℕ) (L : ℕ) (old new : Arrays) (r : Reply) : Type 0 where
-  pub call : IndexAnswer
+  pub call : Result BuiltIndex Refusal
   pub promise : IndexBuilt w count rows L old new call
-  pub told : r ≡ index_reply (index_says call)
+  pub told : r ≡ index_reply (says call)
 
 -- the same of `collect_mul_probe0_candidates`
 pub record Listed (w n : ℕ) (rows order : List ℕ) (p t : ℕ) (old new : List ℕ) (r : Reply) : Type 0 where
-  pub call : CandidatesAnswer
+  pub call : Result (std.Option ℕ) Refusal
   pub promise : Collected w n rows order p t old new call
-  pub told : r ≡ option_reply (candidates_say call)
+  pub told : r ≡ option_reply (says_by counted call)
 
 -- the same of `build_bank`, where the points and the target are long enough
 pub record Banked (nv w : ℕ) (points : List Point) (target : List ℕ) (old new : bank.Arrays) (old_work newWork : List ℕ) (r : Reply) : Type 0 where
-  pub call : BankAnswer
+  pub call : Result ℕ Refusal
   pub promise : BankBuilt nv w points target old new old_work newWork call
-  pub told : r ≡ number_reply (bank_says call)
+  pub told : r ≡ number_reply (says call)
 
 -- 01, Turned back: no buffer changes
 pub record Untouched (number : ℕ) (old new : bank.Arrays) (old_work newWork : List ℕ) (r : Reply) : Type 0 where

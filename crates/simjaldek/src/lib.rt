@@ -5,7 +5,7 @@
 ghost use Rattle.std.specs.Prelude.{◌≡◌, ◌+◌, ◌-◌, ◌*◌, ◌%◌, ◌^◌};
 ghost use Rattle.arith.specs.Word.{modulus, not_of, neg_of, sub_of};
 ghost use Rattle.arith.specs.Cong.{Inverse};
-ghost use Rattle.limits.specs.Refusal.{refuse, outcome};
+ghost use Rattle.limits.specs.Refusal.{refuse, outcome, says, says_by};
 ghost use Rattle.row_gates.specs.Gates.{gate_at, applied, residual, matched};
 ghost use Rattle.expr.specs.Formula.{token_at, tokens, is_formula};
 ghost use Rattle.expr_eval.specs.Answers.{evaluated};
@@ -19,19 +19,27 @@ ghost use Rattle.probe_points.specs.Points.{drawn, made_points};
 ghost use Rattle.probe.specs.FormulaRow.{probed};
 ghost use Rattle.row_fingerprint.specs.Fingerprint.{fingerprint_of};
 ghost use Rattle.bank_parts.specs.Parts.{arrays};
-ghost use Rattle.bank_lookup.specs.Lookup.{found, hand_refusal};
+ghost use Rattle.bank_lookup.specs.Lookup.{found, slot_number, hand_refusal};
 ghost use Rattle.index.specs.Build.{arrays_of};
 ghost use Rattle.search_product_forms.specs.Written.{forms};
 ghost use Rattle.search_product.specs.Answer.{product};
+ghost use Rattle.search_product_trial.specs.Stages.{found_says as product_says};
 ghost use Rattle.search_residual.specs.Answer.{completion};
+ghost use Rattle.search_residual_trial.specs.Steps.{found_says as completion_says};
 ghost use Rattle.simjaldek_abi.specs.Slices.{row_in, short_row, row_refusal, points_in, points_refusal, two_short, three_short, gate_refusal};
-ghost use Rattle.simjaldek_abi.specs.Reply.{or_else, row_or_else, word_reply, cost_reply, points_reply, draw_reply, cost_from, mark_of, match_reply, option_reply, number_reply, product_reply, residual_reply, token_reply, formula_reply, rule_reply, log_of, log_state, log_reply};
+ghost use Rattle.simjaldek_abi.specs.Reply.{or_else, row_reply, word_reply, cost_reply, points_reply, draw_reply, cost_from, mark_of, match_reply, option_reply, number_reply, product_reply, residual_reply, token_reply, formula_reply, rule_reply, log_of, log_state, log_reply};
 ghost use Rattle.simjaldek.specs.Beside.{Indexed, Listed, BankReplied, Texted};
 
+use bank_parts::LentBank;
+use bank_unary::Setting;
 use expr_cost::Cost;
-use listing::ListingAnswer;
+use limits::Refusal;
+use log_rules::LentRules;
 use log_run::Shown;
-use rule_run::RuleState;
+use row_lent::AtomSlot;
+use rule_run::{LentRule, Records, RuleState};
+use search_product_forms::inner::LentForms;
+use search_product_trial::inner::Search;
 use simjaldek_abi::inner::{replies, slices};
 use simjaldek_abi::{
     CostReply, DrawReply, FormulaReply, LogReply, LogState, PointsReply, Reply, ResidualReply,
@@ -55,12 +63,7 @@ pub extern "C" fn simjaldek_product_search(
 ) -> Reply
     ensures { result ≡ product_reply (or_else (row_refusal w target.now) (product w atom_count atom_rows.now pair_count pair_rows.now order.now (row_in target.now) (forms atom_lengths.now atom_ops.now atom_operands.now pairs.now))) }
 {
-    let refusal = slices::row_refusal(w, target);
-    if refusal != 0 {
-        return replies::refused(refusal);
-    }
-    let row = row_lent::inner::load_row(target, 0);
-    replies::of_product(search_product::product_search(
+    replies::of_product(product_of(
         w,
         atom_count,
         atom_lengths,
@@ -71,8 +74,43 @@ pub extern "C" fn simjaldek_product_search(
         pairs,
         pair_rows,
         order,
-        row,
+        target,
     ))
+}
+
+// The export's parameters: the C interface.
+fn product_of(
+    w: u32,
+    atom_count: usize,
+    atom_lengths: &[u32],
+    atom_ops: &[u8],
+    atom_operands: &[u64],
+    atom_rows: &[u64],
+    pair_count: usize,
+    pairs: &[u32],
+    pair_rows: &[u64],
+    order: &[u32],
+    target: &[u64],
+) -> Result<Option<search_product_trial::inner::Found>, Refusal>
+    ensures { says_by product_says result ≡ or_else (row_refusal w target.now) (product w atom_count atom_rows.now pair_count pair_rows.now order.now (row_in target.now) (forms atom_lengths.now atom_ops.now atom_operands.now pairs.now)) }
+{
+    let row = slices::row_of(w, target)?;
+    let forms = LentForms {
+        count: atom_count,
+        lengths: atom_lengths,
+        ops: atom_ops,
+        operands: atom_operands,
+        n: pair_count,
+        pairs,
+    };
+    search_product::product_search(&Search {
+        forms,
+        atoms: atom_rows,
+        listed: pair_rows,
+        order,
+        target: &row,
+        w,
+    })
 }
 
 // `search_residual::residual_search`: kind 0 nothing, 1 the atoms a and b, 2 the atom a and the pair b; `gate` is the outer gate's number, 2 Xor or 3 Add. Refuses 2, 4, 5, 7.
@@ -87,14 +125,27 @@ pub extern "C" fn simjaldek_residual_search(
 ) -> ResidualReply
     ensures { result ≡ residual_reply (or_else (row_refusal w target.now) (completion w atom_count atom_rows.now pair_count pair_rows.now (row_in target.now))) }
 {
-    let number = slices::row_refusal(w, target);
-    if number != 0 {
-        return replies::refused_residual(number);
-    }
-    let row = row_lent::inner::load_row(target, 0);
-    replies::of_residual(search_residual::residual_search(
-        w, atom_count, atom_rows, pair_count, pair_rows, row,
-    ))
+    replies::of_residual(completion_of(w, atom_count, atom_rows, pair_count, pair_rows, target))
+}
+
+fn completion_of(
+    w: u32,
+    atom_count: usize,
+    atom_rows: &[u64],
+    pair_count: usize,
+    pair_rows: &[u64],
+    target: &[u64],
+) -> Result<Option<search_residual_trial::inner::Found>, Refusal>
+    ensures { says_by completion_says result ≡ or_else (row_refusal w target.now) (completion w atom_count atom_rows.now pair_count pair_rows.now (row_in target.now)) }
+{
+    search_residual::residual_search(
+        w,
+        atom_count,
+        atom_rows,
+        pair_count,
+        pair_rows,
+        slices::row_of(w, target)?,
+    )
 }
 
 // `bank_lookup::find_row`: kind 1 the slot a, 0 none. Refuses 2, 4, 5, 7.
@@ -107,12 +158,19 @@ pub extern "C" fn simjaldek_find_row(
 ) -> Reply
     ensures { result ≡ option_reply (or_else (row_refusal w row.now) (found w atom_count atom_rows.now (row_in row.now))) }
 {
-    let refusal = slices::row_refusal(w, row);
-    if refusal != 0 {
-        return replies::refused(refusal);
-    }
-    let asked = row_lent::inner::load_row(row, 0);
-    replies::of_slot(bank_lookup::find_row(w, atom_count, atom_rows, asked))
+    replies::of_slot(slot_of(w, atom_count, atom_rows, row))
+}
+
+fn slot_of(
+    w: u32,
+    atom_count: usize,
+    atom_rows: &[u64],
+    row: &[u64],
+) -> Result<Option<AtomSlot>, Refusal>
+    ensures { says_by slot_number result ≡ or_else (row_refusal w row.now) (found w atom_count atom_rows.now (row_in row.now)) }
+{
+    let asked = slices::row_of(w, row)?;
+    bank_lookup::find_row(w, atom_count, atom_rows, asked)
 }
 
 // `index::build_index`: a pairs, and b 1 where the build was cut. Refuses 2, 3, 4, 7.
@@ -170,25 +228,21 @@ pub extern "C" fn simjaldek_build_bank(
 ) -> Reply
     ensures { BankReplied nv w points.now target.now (arrays atom_lengths.old atom_ops.old atom_operands.old atom_costs.old atom_rows.old) (arrays atom_lengths.new atom_ops.new atom_operands.new atom_costs.new atom_rows.new) work.old work.new result }
 {
-    let refusal = slices::points_row_refusal(nv, w, points, target);
-    if refusal != 0 {
-        return replies::refused(refusal);
+    if let Err(refusal) = slices::check_points_row(nv, w, points, target) {
+        return replies::refused(u32::from(refusal));
     }
     let at = slices::points_of(points);
     let row = row_lent::inner::load_row(target, 0);
-    let built = bank::build_bank(
-        atom_lengths,
-        atom_ops,
-        atom_operands,
-        atom_costs,
-        atom_rows,
-        work,
-        nv,
-        w,
-        at,
-        row,
-    );
-    replies::of_bank(built)
+    let mut lent = LentBank {
+        lengths: atom_lengths,
+        ops: atom_ops,
+        operands: atom_operands,
+        costs: atom_costs,
+        rows: atom_rows,
+    };
+    let setting = Setting { nv, w, points: at };
+    let built = bank::build_bank(&mut lent, work, setting, row);
+    replies::of_number(built)
 }
 
 // `expr::token_at`: the token's opcode, 255 for none, and its operand.
@@ -237,13 +291,7 @@ pub extern "C" fn simjaldek_compute_cost(
 ) -> CostReply
     ensures { result ≡ cost_reply (costed nv token_count ops.now operands.now) }
 {
-    let x = expr_cost::compute_cost(nv, token_count, ops, operands);
-    CostReply {
-        refusal: x.refusal,
-        size: x.cost.size,
-        products: x.cost.products,
-        depth: x.cost.depth,
-    }
+    replies::of_cost(expr_cost::compute_cost(nv, token_count, ops, operands))
 }
 
 // `load_draw::draw_formula`: the tokens drawn stand in the arrays. Refuses 1, 2, 4, and 6 for a limit that isn't 1 to 64.
@@ -256,16 +304,12 @@ pub extern "C" fn simjaldek_draw_formula(
     w: u32,
     limit: usize,
 ) -> FormulaReply
-    ensures value { result ≡ formula_reply (called state nv w limit ops.old operands.old).answer }
+    ensures value { result ≡ formula_reply state (called state nv w limit ops.old operands.old).answer }
     ensures ops_after { ops.new ≡ (called state nv w limit ops.old operands.old).ops }
     ensures operands_after { operands.new ≡ (called state nv w limit ops.old operands.old).operands }
 {
     let x = load_draw::draw_formula(ops, operands, state, nv, w, limit);
-    FormulaReply {
-        refusal: x.refusal,
-        count: x.count,
-        state: x.state,
-    }
+    replies::of_formula(x, state)
 }
 
 // `rule_run::run_rule`: the answers stand in the array. Refuses 1, 2, 4, 6, and 10 for a window that isn't 1 to 64 or an m that isn't 1 to the window.
@@ -286,24 +330,21 @@ pub extern "C" fn simjaldek_run_rule(
     ensures value { result ≡ rule_reply (ran nv w token_count ops.now operands.now m window (record { past = state }) n records.now answers.old).reply }
     ensures answers_after { answers.new ≡ (ran nv w token_count ops.now operands.now m window (record { past = state }) n records.now answers.old).answers }
 {
-    let x = rule_run::run_rule(
-        answers,
-        nv,
-        w,
+    let rule = LentRule {
         token_count,
         ops,
         operands,
         m,
         window,
-        RuleState { past: state },
+    };
+    let records = Records {
+        nv,
+        w,
         n,
-        records,
-    );
-    let after = x.state;
-    RuleReply {
-        refusal: x.refusal,
-        state: after.past,
-    }
+        words: records,
+    };
+    let x = rule_run::run_rule(answers, &rule, RuleState { past: state }, &records);
+    replies::of_rule(x, state)
 }
 
 // `log_run::open_log`: the log of a new sounding, without a close and with fresh windows.
@@ -333,45 +374,45 @@ pub extern "C" fn simjaldek_run_log(
 ) -> LogReply
     ensures { result ≡ log_reply log (logged nv w (rules_in rule_count ranks.now ms.now windows.now token_counts.now ops.now operands.now) (log_of log) n records.now) }
 {
-    // `run_log` itself would copy the log twice more (B78)
-    let mut seen = log.windows;
-    let x = log_run::inner::take(
-        &mut seen,
-        log.open != 0,
-        Shown {
-            number: log.number,
-            close: log.closed_at,
-            later: log.later,
-            rank: log.rank,
-        },
-        rule_count,
+    let rules = LentRules {
+        count: rule_count,
         ranks,
         ms,
         windows,
         token_counts,
         ops,
         operands,
+    };
+    let records = Records {
         nv,
         w,
         n,
-        records,
-    );
-    if x.refusal != 0 {
-        return LogReply {
-            refusal: x.refusal,
+        words: records,
+    };
+    let shown = Shown {
+        number: log.number,
+        close: log.closed_at,
+        later: log.later,
+        rank: log.rank,
+    };
+    // `run_log` itself would copy the log twice more (B78)
+    let mut seen = log.windows;
+    let x = log_run::inner::take(&mut seen, log.open != 0, shown, &rules, &records);
+    match x {
+        Ok(shown) => LogReply {
+            refusal: 0,
+            log: LogState {
+                open: replies::mark_of(log.open != 0),
+                rank: shown.rank,
+                number: shown.number,
+                closed_at: shown.close,
+                later: shown.later,
+                windows: seen,
+            },
+        },
+        Err(refusal) => LogReply {
+            refusal: u32::from(refusal),
             log,
-        };
-    }
-    let shown = x.shown;
-    LogReply {
-        refusal: 0,
-        log: LogState {
-            open: replies::mark_of(log.open != 0),
-            rank: shown.rank,
-            number: shown.number,
-            closed_at: shown.close,
-            later: shown.later,
-            windows: seen,
         },
     }
 }
@@ -400,14 +441,23 @@ pub extern "C" fn simjaldek_probe(
     ops: &[u8],
     operands: &[u64],
 ) -> RowReply
-    ensures { result ≡ row_or_else (points_refusal nv w points.now) (probed nv w (points_in points.now) token_count ops.now operands.now) }
+    ensures { result ≡ row_reply (or_else (points_refusal nv w points.now) (probed nv w (points_in points.now) token_count ops.now operands.now)) }
 {
-    let refusal = slices::points_refusal(nv, w, points);
-    if refusal != 0 {
-        return replies::refused_row(refusal);
-    }
-    let at = slices::points_of(points);
-    replies::of_row(probe::probe(nv, w, at, token_count, ops, operands))
+    replies::of_row(row_at(nv, w, points, token_count, ops, operands))
+}
+
+fn row_at(
+    nv: u32,
+    w: u32,
+    points: &[u64],
+    token_count: usize,
+    ops: &[u8],
+    operands: &[u64],
+) -> Result<[u64; 16], Refusal>
+    ensures { says result ≡ or_else (points_refusal nv w points.now) (probed nv w (points_in points.now) token_count ops.now operands.now) }
+{
+    slices::check_points(nv, w, points)?;
+    probe::probe(nv, w, slices::points_of(points), token_count, ops, operands)
 }
 
 // `row_fingerprint::fingerprint`. Refuses 4.
@@ -415,17 +465,17 @@ pub extern "C" fn simjaldek_probe(
 pub extern "C" fn simjaldek_fingerprint(row: &[u64]) -> WordReply
     ensures { result ≡ word_reply (outcome (refuse (short_row row.now) 4 0) (fingerprint_of (row_in row.now))) }
 {
+    replies::of_value(print_of(row))
+}
+
+// The fingerprint of a row, once its slice is long enough.
+fn print_of(row: &[u64]) -> Result<u64, Refusal>
+    ensures { says result ≡ outcome (refuse (short_row row.now) 4 0) (fingerprint_of (row_in row.now)) }
+{
     if row.len() < row_gates::ROW_WORDS {
-        return WordReply {
-            refusal: 4,
-            word: 0,
-        };
+        return Err(Refusal::ShortArray);
     }
-    let words = row_lent::inner::load_row(row, 0);
-    WordReply {
-        refusal: 0,
-        word: row_fingerprint::fingerprint(words),
-    }
+    Ok(row_fingerprint::fingerprint(row_lent::inner::load_row(row, 0)))
 }
 
 // `arith::bitmask`.
@@ -540,7 +590,7 @@ pub extern "C" fn simjaldek_is_better(
 // `row_gates::gate_apply`, with the gate's number. Refuses 2, 4, and 6 for a number above 4.
 #[unsafe(no_mangle)]
 pub extern "C" fn simjaldek_gate_apply(a: &[u64], b: &[u64], g: u32, w: u32) -> RowReply
-    ensures { result ≡ row_or_else (gate_refusal w (two_short a.now b.now) g) (applied (gate_at g) w (row_in a.now) (row_in b.now)) }
+    ensures { result ≡ row_reply (or_else (gate_refusal w (two_short a.now b.now) g) (applied (gate_at g) w (row_in a.now) (row_in b.now))) }
 {
     replies::of_gate(false, a, b, g, w)
 }
@@ -548,7 +598,7 @@ pub extern "C" fn simjaldek_gate_apply(a: &[u64], b: &[u64], g: u32, w: u32) -> 
 // `row_gates::gate_residual`, with the gate's number. Refuses 2, 4, and 6 for a number above 4.
 #[unsafe(no_mangle)]
 pub extern "C" fn simjaldek_gate_residual(target: &[u64], a: &[u64], g: u32, w: u32) -> RowReply
-    ensures { result ≡ row_or_else (gate_refusal w (two_short target.now a.now) g) (residual (gate_at g) w (row_in target.now) (row_in a.now)) }
+    ensures { result ≡ row_reply (or_else (gate_refusal w (two_short target.now a.now) g) (residual (gate_at g) w (row_in target.now) (row_in a.now))) }
 {
     replies::of_gate(true, target, a, g, w)
 }
@@ -564,14 +614,17 @@ pub extern "C" fn simjaldek_gate_matches(
 ) -> Reply
     ensures { result ≡ match_reply (or_else (gate_refusal w (three_short a.now b.now target.now) g) (matched (gate_at g) w (row_in a.now) (row_in b.now) (row_in target.now))) }
 {
-    let refusal = slices::gate_refusal(w, slices::three_short(a, b, target), g);
-    if refusal != 0 {
-        return replies::refused(refusal);
-    }
+    replies::of_match(match_of(a, b, target, g, w))
+}
+
+fn match_of(a: &[u64], b: &[u64], target: &[u64], g: u32, w: u32) -> Result<bool, Refusal>
+    ensures { says result ≡ or_else (gate_refusal w (three_short a.now b.now target.now) g) (matched (gate_at g) w (row_in a.now) (row_in b.now) (row_in target.now)) }
+{
+    let gate = slices::gate_in(w, slices::three_short(a, b, target), g)?;
     let left = row_lent::inner::load_row(a, 0);
     let right = row_lent::inner::load_row(b, 0);
     let whole = row_lent::inner::load_row(target, 0);
-    replies::of_match(row_gates::gate_matches(left, right, whole, row_gates::inner::gate_at(g), w))
+    row_gates::gate_matches(left, right, whole, gate, w)
 }
 
 // Where `bank_lookup::atom_row` begins: the place in words of the first of the slot's sixteen. Refuses 4, 7.
@@ -579,16 +632,23 @@ pub extern "C" fn simjaldek_gate_matches(
 pub extern "C" fn simjaldek_atom_row(atom_rows: &[u64], atom_count: usize, slot: u32) -> Reply
     ensures { result ≡ number_reply (outcome (hand_refusal atom_count atom_rows.now slot) (16 * slot)) }
 {
+    replies::of_number(place_of(atom_rows, atom_count, slot))
+}
+
+// Where the row of a slot begins in the lent rows.
+fn place_of(atom_rows: &[u64], atom_count: usize, slot: u32) -> Result<u32, Refusal>
+    ensures { says result ≡ outcome (hand_refusal atom_count atom_rows.now slot) (16 * slot) }
+{
     if atom_rows.len() / row_gates::ROW_WORDS < atom_count {
-        return replies::refused(4);
+        return Err(Refusal::ShortArray);
     }
     if limits::ATOMS_MAX < atom_count {
-        return replies::refused(7);
+        return Err(Refusal::Claim);
     }
     if atom_count <= slot as usize {
-        return replies::refused(7);
+        return Err(Refusal::Claim);
     }
-    replies::answer(0, 16 * slot, 0)
+    Ok(16 * slot)
 }
 
 // `listing::write_listing` of a whole text: the length of what the listing program writes, which stands in the buffer. Refuses 4.
@@ -598,7 +658,10 @@ pub extern "C" fn simjaldek_write_listing(out: &mut [u8], text: &[u8]) -> TextRe
 {
     let read = text_parse::feed(text_parse::begin(), text);
     match listing::write_listing(out, read) {
-        ListingAnswer::Written(length) => TextReply { refusal: 0, length },
-        ListingAnswer::Refused(refusal) => TextReply { refusal, length: 0 },
+        Ok(length) => TextReply { refusal: 0, length },
+        Err(refusal) => TextReply {
+            refusal: u32::from(refusal),
+            length: 0,
+        },
     }
 }

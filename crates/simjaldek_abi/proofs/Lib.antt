@@ -1,3 +1,2 @@
 -- The laws of this crate, which the exported functions cite too.
-pub mod Early
 pub mod Loading

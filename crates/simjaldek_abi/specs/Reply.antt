@@ -3,22 +3,20 @@ use Rattle.std.specs.Prelude.{Bool, true, false, not, cond, List, map, ℕ, eqb,
 use Rattle.std.proofs.Math.Option.{Option, none, some}
 use Rattle.limits.specs.Refusal.{unless_refused, Outcome, refused, answer}
 use Rattle.row_gates.specs.declared.Gate.{Gate}
-use Rattle.row_gates.specs.declared.RowAnswer.{RowAnswer}
 use Rattle.row_gates.specs.Gates.{gate_number, applied, residual}
 use Rattle.expr.specs.declared.Token.{Token}
 use Rattle.expr.specs.Formula.{opcode_of, operand_of}
 use Rattle.expr_cost.specs.declared.Cost.{Cost}
-use Rattle.expr_cost.specs.declared.CostAnswer.{CostAnswer}
 use Rattle.probe_points.specs.declared.Draw.{Draw}
 use Rattle.probe_points.specs.declared.Point.{Point}
 use Rattle.probe_points.specs.declared.Points.{Points}
 use Rattle.load_draw.specs.declared.DrawnFormula.{DrawnFormula}
-use Rattle.rule_run.specs.declared.RuleAnswer.{RuleAnswer}
+use Rattle.rule_run.specs.Window.{Reply as RuleReplied}
 use Rattle.log_run.specs.declared.Log.{Log}
-use Rattle.log_run.specs.declared.LogAnswer.{LogAnswer}
+use Rattle.log_run.specs.Step.{Reply as LogReplied}
 use Rattle.search_product_trial.specs.Trying.{Product}
 use Rattle.search_residual_trial.specs.Trying.{Completion}
-use Rattle.index.specs.Build.{Summary}
+use Rattle.index.specs.declared.BuiltIndex.{BuiltIndex}
 use Rattle.simjaldek_abi.specs.declared.Reply.{Reply}
 use Rattle.simjaldek_abi.specs.declared.ResidualReply.{ResidualReply}
 use Rattle.simjaldek_abi.specs.declared.WordReply.{WordReply}
@@ -81,7 +79,7 @@ mark_of true = 1
 mark_of false = 0
 
 -- 01, Index: how many pairs are listed, and the mark "cut"
-abbrev pub index_reply : Outcome Summary → Reply
+abbrev pub index_reply : Outcome BuiltIndex → Reply
 index_reply (refused number) = refused_reply number
 index_reply (answer s) = reply 0 s.pairs (mark_of s.cut)
 
@@ -102,9 +100,10 @@ abbrev pub word_reply : Outcome ℕ → WordReply
 word_reply (refused number) = record { refusal = number; word = 0 }
 word_reply (answer word) = record { refusal = 0; word = word }
 
--- a cost beside its refusal, field by field
-abbrev pub cost_reply : CostAnswer → CostReply
-cost_reply x = record { refusal = x.refusal; size = x.cost.size; products = x.cost.products; depth = x.cost.depth }
+-- 01, Turned back: a cost record holds only zeros beside a number of the table
+abbrev pub cost_reply : Outcome Cost → CostReply
+cost_reply (refused number) = record { refusal = number; size = 0; products = 0; depth = 0 }
+cost_reply (answer x) = record { refusal = 0; size = x.size; products = x.products; depth = x.depth }
 
 -- a cost by its three numbers
 abbrev pub cost_from : ℕ → ℕ → ℕ → Cost
@@ -114,16 +113,13 @@ cost_from size products depth = record { size = size; products = products; depth
 abbrev pub draw_reply : Draw → DrawReply
 draw_reply x = record { state = x.state; word = x.word }
 
--- a row beside its refusal, and the row of a refusal
-abbrev pub row_reply : RowAnswer → RowReply
-row_reply x = record { refusal = x.refusal; row = x.row }
-
+-- 01, Turned back: a row that a call hands back by value holds only zeros when turned back, beside the number
 abbrev pub refused_row : ℕ → RowReply
 refused_row number = record { refusal = number; row = replicate 16 0 }
 
--- a number found before the call, else what the call answers
-abbrev pub row_or_else : ℕ → RowAnswer → RowReply
-row_or_else number call = unless_refused number (row_reply call) (refused_row number)
+abbrev pub row_reply : Outcome (List ℕ) → RowReply
+row_reply (refused number) = refused_row number
+row_reply (answer row) = record { refusal = 0; row = row }
 
 -- the sixteen points beside their refusal, word by word
 abbrev pub point_words : Point → PointWords
@@ -133,7 +129,7 @@ abbrev pub points_reply : Points → PointsReply
 points_reply x = record { refusal = x.refusal; points = map point_words x.points }
 
 -- 01, cobra-simd lib.rs: a gate on rows, or the row that completes one to a target
-abbrev pub gate_call : Bool → Gate → ℕ → List ℕ → List ℕ → RowAnswer
+abbrev pub gate_call : Bool → Gate → ℕ → List ℕ → List ℕ → Outcome (List ℕ)
 gate_call undo g w a b = cond undo (residual g w a b) (applied g w a b)
 
 -- ---- tokens and texts
@@ -144,12 +140,13 @@ token_parts opcode operand = record { opcode = opcode; operand = operand }
 abbrev pub token_reply : Token → TokenReply
 token_reply t = token_parts (opcode_of t) (operand_of t)
 
--- 02, 2.2: how many tokens were drawn, and the state handed on
-abbrev pub formula_reply : DrawnFormula → FormulaReply
-formula_reply x = record { refusal = x.refusal; count = x.count; state = x.state }
+-- 02, 2.2: how many tokens were drawn, and the state handed on; beside a refusal no token, and the state as it was lent
+abbrev pub formula_reply : ℕ → Outcome DrawnFormula → FormulaReply
+formula_reply lent (refused number) = record { refusal = number; count = 0; state = lent }
+formula_reply lent (answer x) = record { refusal = 0; count = x.count; state = x.state }
 
 -- 02, 2.6: the state handed back
-abbrev pub rule_reply : RuleAnswer → RuleReply
+abbrev pub rule_reply : RuleReplied → RuleReply
 rule_reply x = record { refusal = x.refusal; state = x.state.past }
 
 -- 02, 2.7: a log out of its numbers: a sounding is open exactly if `open` isn't 0
@@ -172,7 +169,7 @@ log_state l = record {
 }
 
 -- 02, 2.7: the log handed back; beside a refusal as it was lent
-abbrev pub log_reply : LogState → LogAnswer → LogReply
+abbrev pub log_reply : LogState → LogReplied → LogReply
 log_reply lent x = record { refusal = x.refusal; log = unless_refused x.refusal (log_state x.log) lent }
 
 -- how long the text is that a call wrote, and the reply of a refusal

@@ -1,11 +1,10 @@
 -- What read after read does to a reading. Assumes nothing.
-use Rattle.std.proofs.Common.{ℕ, ◌+◌, ◌^◌, ◌<◌, List, [], ◌++◌, length, refl, append_assoc, arith, length-append}
+use Rattle.std.proofs.Common.{◌≡◌, ℕ, ◌+◌, ◌^◌, ◌<◌, List, [], ◌++◌, length, refl, subst, append_assoc, arith, length-append}
 use Rattle.std.specs.Io.KnownBytes.{Consumes}
 use Rattle.std.specs.declared.option.Option.{Option}
 use Rattle.std.specs.Prelude.{None, Some}
 use Rattle.text_parse.specs.declared.Parse.{Parse}
 use Rattle.text_parse.specs.Reading.{Reads}
-use Rattle.text_io.specs.declared.Turn.{Turn}
 use Rattle.text_io.specs.Reader.{ReadsOn}
 
 -- of the bytes that the reader had left when the reading began it took a part, and p has read that part
@@ -26,10 +25,11 @@ took_both (Some xs) None new a b h k = absurd h
 took_both (Some xs) (Some ys) None a b h k = absurd k
 took_both (Some xs) (Some ys) (Some zs) a b h k = rw (append_assoc, ← k) h
 
--- one more read
-pub read_more : {old mid new : Option (List ℕ)} {p : Parse} {t : Turn} → HasRead old mid p → ReadsOn mid new p t → HasRead old new t.parse
-read_more {old = old} {mid = mid} {new = new} h r = record {
-  part = h.part ++ r.part;
-  took = took_both old mid new h.part r.part h.took r.took;
-  reads = λ small. let sum : length h.part + length r.part < 2 ^ 64 = rw length-append at small in r.fed h.part sum (h.reads (omega arith));
-}
+-- one more read, which goes on
+pub read_more : {old mid new : Option (List ℕ)} {p q : Parse} {r : Option Parse} → HasRead old mid p → ReadsOn mid new p r → r ≡ Some q → HasRead old new q
+read_more {old = old} {mid = mid} {new = new} {p = p} h on is =
+    let t = subst (ReadsOn mid new p) is on in record {
+      part = h.part ++ t.part;
+      took = took_both old mid new h.part t.part h.took t.took;
+      reads = λ small. let sum : length h.part + length t.part < 2 ^ 64 = rw length-append at small in t.fed h.part sum (h.reads (omega arith));
+    }

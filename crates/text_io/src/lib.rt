@@ -9,40 +9,28 @@ ghost use Rattle.text_io.specs.Reader.{ReadsOn};
 use std::io::{self, Read, Write};
 use text_parse::Parse;
 
-// A reading, and whether to go on: 0 go on, 1 the text is at its end.
-#[derive(Clone, Copy)]
-pub struct Turn {
-    pub parse: Parse,
-    pub state: u8,
-}
-
-// One read.
-fn read_some<R: Read>(reader: &mut R, p: Parse) -> io::Result<Turn>
+// One read: the reading after it, or none where the text is at its end.
+fn read_some<R: Read>(reader: &mut R, p: Parse) -> io::Result<Option<Parse>>
     ensures { IfOk result (λ t. ReadsOn (R.remaining reader.old) (R.remaining reader.new) p t) }
 {
     let mut buffer = [0u8; 65536];
     let n = reader.read(&mut buffer)?;
     if n == 0 {
-        return Ok(Turn { parse: p, state: 1 });
+        return Ok(None);
     }
-    let q = text_parse::feed(p, &buffer[..n]);
-    Ok(Turn { parse: q, state: 0 })
+    Ok(Some(text_parse::feed(p, &buffer[..n])))
 }
 
 // Read after read to the text's end; a read that fails is an error. A loop has to end: no run uses up 2^40 reads.
-pub fn read_all<R: Read>(reader: &mut R) -> io::Result<Turn>
-    ensures ended { IfOk result (λ t. t.state ≡ 1) }
-    ensures reads { IfOk result (λ t. IfSome (R.remaining reader.old) (λ text. length text < 2 ^ 64 → Reads t.parse text)) }
+pub fn read_all<R: Read>(reader: &mut R) -> io::Result<Parse>
+    ensures { IfOk result (λ p. IfSome (R.remaining reader.old) (λ text. length text < 2 ^ 64 → Reads p text)) }
 {
     let mut p = text_parse::begin();
-    let mut turns: u64 = 0;
-    while turns < 0x100_0000_0000 {
-        let t = read_some(reader, p)?;
-        turns += 1;
-        if t.state != 0 {
-            return Ok(t);
-        }
-        p = t.parse;
+    for _ in 0..0x100_0000_0000u64 {
+        let Some(q) = read_some(reader, p)? else {
+            return Ok(p);
+        };
+        p = q;
     }
     Err(io::Error::from(io::ErrorKind::FileTooLarge))
 }

@@ -6,9 +6,11 @@ use mathlib.Core.Option.{Option, none, some}
 use native.Mathlib.Decide.{ℕ_discrete}
 use lib.ListN.{get_or-append, length-replicate}
 use lib.Seq.{append_snoc, get_or_at}
+use Rattle.std.specs.Prelude.{Some, None}
+use Rattle.std.specs.declared.option.Option as Answer
+use Rattle.std.proofs.lemmas.Option.{none-some, same_Some}
 use Rattle.arrays.proofs.Lists.{false_true}
 use Rattle.text_parse.specs.declared.Parse.{Parse}
-use Rattle.text_parse.specs.declared.Input.{Input}
 use Rattle.text_parse.specs.Text.{is_parting, is_digit, all_digits, value_of, is_number, with_word, words_after, words_of, before, numbers_of, listing_many, load_many, if_many, read_text}
 use Rattle.text_parse.specs.Reading.{kept, Keeps, ahead, Midway, Reads, Ends}
 use Rattle.text_parse.specs.Steps.{Fed, Kept, Parted, AtEnd, answered}
@@ -276,32 +278,29 @@ at_end_spoilt p bad =
 
 -- ---- what is answered, under any rule that the test follows
 pub ended : (many : List ℕ → Bool) (p q : Parse) (right : Bool) → AtEnd p q → ((ns : List ℕ) → q.count ≡ length ns → Keeps q.numbers ns → right ≡ many ns)
-    → (r : Input) → r ≡ answered q right → (text : List ℕ) → length text + 1 < 2 ^ 64 → Reads p text → Ends many r text
+    → (r : Answer.Option (List ℕ)) → r ≡ answered q right → (text : List ℕ) → length text + 1 < 2 ^ 64 → Reads p text → Ends many r text
 unfolding read_text if_many
 ended many p q right at follows r e text small h = go q.spoilt right refl refl e
   where
-    go : (bad fits : Bool) → q.spoilt ≡ bad → right ≡ fits → r ≡ cond (bad || not fits) (record { fits = false; numbers = replicate kept 0 }) (record { fits = true; numbers = q.numbers }) → Ends many r text
+    go : (bad fits : Bool) → q.spoilt ≡ bad → right ≡ fits → r ≡ cond (bad || not fits) None (Some q.numbers) → Ends many r text
     go true fits bad w a =
         record {
-          given = λ yes. absurd (false_true (sym (ap (λ (i : Input). i.fits) a) ∙ yes));
+          given = λ numbers yes. absurd (none-some numbers (sym a ∙ yes));
           refused = λ _. rw (at.spoilt bad text h);
-          zeros = λ _. ap (λ (i : Input). i.numbers) a;
         }
     go false true clean w a =
         let n = at.counts clean text small h in
         let so : many n.ns ≡ true = sym (follows n.ns n.count n.keeps) ∙ w in
         record {
-          given = λ yes. record { ns = n.ns; is = rw (n.is, so); keeps = rw (ap (λ (i : Input). i.numbers) a) n.keeps };
-          refused = λ no. absurd (false_true (sym no ∙ ap (λ (i : Input). i.fits) a));
-          zeros = λ no. absurd (false_true (sym no ∙ ap (λ (i : Input). i.fits) a));
+          given = λ numbers yes. record { ns = n.ns; is = rw (n.is, so); keeps = rw (same_Some numbers q.numbers (sym yes ∙ a)) n.keeps };
+          refused = λ no. absurd (none-some q.numbers (sym no ∙ a));
         }
     go false false clean w a =
         let n = at.counts clean text small h in
         let so : many n.ns ≡ false = sym (follows n.ns n.count n.keeps) ∙ w in
         record {
-          given = λ yes. absurd (false_true (sym (ap (λ (i : Input). i.fits) a) ∙ yes));
+          given = λ numbers yes. absurd (none-some numbers (sym a ∙ yes));
           refused = λ _. rw (n.is, so);
-          zeros = λ _. ap (λ (i : Input). i.numbers) a;
         }
 
 -- the two rules, by the count and the first number

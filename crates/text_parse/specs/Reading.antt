@@ -1,8 +1,8 @@
 -- Where a reading stands, and what its end says. Assumes nothing.
-use Rattle.std.specs.Prelude.{◌≡◌, ℕ, ◌<◌, ◌≤◌, Bool, true, false, List, [], ◌++◌, length, replicate, slice_index}
+use Rattle.std.specs.Prelude.{◌≡◌, ℕ, ◌<◌, ◌≤◌, Bool, true, false, List, [], ◌++◌, length, slice_index, Some, None}
+use Rattle.std.specs.declared.option.Option as Answer
 use Rattle.std.proofs.Math.Option.{Option, none, some}
 use Rattle.text_parse.specs.declared.Parse.{Parse}
-use Rattle.text_parse.specs.declared.Input.{Input}
 use Rattle.text_parse.specs.Text.{all_digits, value_of, numbers_of, words_of, words_after, read_text}
 
 -- how many numbers are kept: 19 + 16 × 6, as many as a text of six variables has
@@ -45,9 +45,7 @@ pub record Given (right : List ℕ → Bool) (numbers text : List ℕ) : Type 0 
   pub is : read_text right text ≡ some ns
   pub keeps : Keeps numbers ns
 
--- what the end of a text says
-pub record Ends (right : List ℕ → Bool) (r : Input) (text : List ℕ) : Type 0 where
-  pub given : r.fits ≡ true → Given right r.numbers text
-  pub refused : r.fits ≡ false → read_text right text ≡ none
-  -- 01, Turned back: an array handed back by value holds only zeros
-  pub zeros : r.fits ≡ false → r.numbers ≡ replicate kept 0
+-- what the end of a text says: its numbers, none where 9 turns it back
+pub record Ends (right : List ℕ → Bool) (r : Answer.Option (List ℕ)) (text : List ℕ) : Type 0 where
+  pub given : (numbers : List ℕ) → r ≡ Some numbers → Given right numbers text
+  pub refused : r ≡ None → read_text right text ≡ none

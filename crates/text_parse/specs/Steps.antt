@@ -1,11 +1,11 @@
 -- What the steps of a reading say of the state. Assumes nothing.
-use Rattle.std.specs.Prelude.{◌≡◌, ℕ, ◌+◌, ◌^◌, ◌<◌, Bool, true, false, cond, not, ◌||◌, List, [], ◌∷◌, ◌++◌, length, replicate}
+use Rattle.std.specs.Prelude.{◌≡◌, ℕ, ◌+◌, ◌^◌, ◌<◌, Bool, true, false, cond, not, ◌||◌, List, [], ◌∷◌, ◌++◌, length, Some, None}
+use Rattle.std.specs.declared.option.Option as Answer
 use Rattle.std.proofs.Math.Option.{none, some}
 use Rattle.text_parse.specs.declared.Parse.{Parse}
 use Rattle.text_parse.specs.declared.Scan.{Scan}
-use Rattle.text_parse.specs.declared.Input.{Input}
 use Rattle.text_parse.specs.Text.{is_parting, words_of, numbers_of}
-use Rattle.text_parse.specs.Reading.{kept, Keeps, Reads}
+use Rattle.text_parse.specs.Reading.{Keeps, Reads}
 
 -- a state out of the numbers that are kept and the rest of it
 abbrev pub joined : List ℕ → Scan → Parse
@@ -38,5 +38,5 @@ pub record AtEnd (p q : Parse) : Type 0 where
   pub spoilt : q.spoilt ≡ true → (text : List ℕ) → Reads p text → numbers_of (words_of text) ≡ none
 
 -- what is answered of numbers that are right many, or aren't
-abbrev pub answered : Parse → Bool → Input
-answered q right = cond (q.spoilt || not right) (record { fits = false; numbers = replicate kept 0 }) (record { fits = true; numbers = q.numbers })
+abbrev pub answered : Parse → Bool → Answer.Option (List ℕ)
+answered q right = cond (q.spoilt || not right) None (Some q.numbers)

@@ -22,8 +22,8 @@ const VALUE_MAX: u64 = 18446744073709551615;
 
 const VALUE_TENTH: u64 = 1844674407370955161;
 
-// Where a reading stands: the numbers read so far, of which the first are kept; whether it is within a number, and that number's value so far;
-// whether the text is spoilt: refusal 9 lets no text through that begins so. Its fields are private: every state comes from `begin` and `feed`, so it has read some text.
+// Where a reading stands: the numbers read so far, of which the first are kept; whether it is within a number, and that number's value so far:
+// two fields, as an Option's padding goes through memory on every byte (see `feed`); whether the text is spoilt: refusal 9 lets no text through that begins so. Its fields are private: every state comes from `begin` and `feed`, so it has read some text.
 #[derive(Clone, Copy)]
 pub struct Parse {
     numbers: [u64; 115],
@@ -40,13 +40,6 @@ struct Scan {
     value: u64,
     within: bool,
     spoilt: bool,
-}
-
-// Whether refusal 9 lets the text through, and its numbers.
-#[derive(Clone, Copy)]
-pub struct Input {
-    pub fits: bool,
-    pub numbers: [u64; 115],
 }
 
 // The state before the first byte.
@@ -67,23 +60,14 @@ pub fn begin() -> Parse
 fn is_parting(b: u8) -> bool
     ensures { result ≡ is_parting b }
 {
-    if b == b' ' {
-        return true;
-    }
-    if b == b'\n' {
-        return true;
-    }
-    b == b'\r'
+    matches!(b, b' ' | b'\n' | b'\r')
 }
 
 // Whether the byte is one of 0 to 9.
 fn is_digit(b: u8) -> bool
     ensures { result ≡ is_digit b }
 {
-    if b < b'0' {
-        return false;
-    }
-    b <= b'9'
+    b.is_ascii_digit()
 }
 
 // The state without its numbers, and with them again.
@@ -152,7 +136,7 @@ fn close(numbers: &mut [u64], s: Scan) -> Scan
 {
     keep(numbers, s.count, s.value);
     Scan {
-        count: std::num::wrapping_add_u64(s.count, 1),
+        count: s.count.wrapping_add(1),
         value: 0,
         within: false,
         spoilt: false,
@@ -192,9 +176,8 @@ pub fn feed(p: Parse, part: &[u8]) -> Parse
 {
     let mut numbers = p.numbers;
     let mut s = without_numbers(p);
-    let mut i = 0;
-    while i < part.len() {
-        let t = feed_byte(&mut numbers, s, part[i]);
+    for b in part {
+        let t = feed_byte(&mut numbers, s, *b);
         // field by field: a copy of the whole would take the unused bytes at its end through memory, ten cycles a byte
         s = Scan {
             count: t.count,
@@ -202,7 +185,6 @@ pub fn feed(p: Parse, part: &[u8]) -> Parse
             within: t.within,
             spoilt: t.spoilt,
         };
-        i += 1;
     }
     with_numbers(s, numbers)
 }
@@ -234,24 +216,17 @@ fn end_text(p: Parse) -> Parse
 }
 
 // The numbers, where there are right many of them and the text isn't spoilt.
-fn if_many(q: Parse, right: bool) -> Input
+fn if_many(q: Parse, right: bool) -> Option<[u64; 115]>
     ensures { result ≡ answered q right }
 {
     if q.spoilt || !right {
-        return Input {
-            fits: false,
-            numbers: [0; NUMBERS_MAX],
-        };
+        return None;
     }
-    let numbers = q.numbers;
-    Input {
-        fits: true,
-        numbers,
-    }
+    Some(q.numbers)
 }
 
-// The text is at its end: whether the listing's refusal 9 lets it through, and its numbers.
-pub fn finish(p: Parse) -> Input
+// The text is at its end: its numbers, if the listing's refusal 9 lets it through.
+pub fn finish(p: Parse) -> Option<[u64; 115]>
     ensures { (text : List ℕ) → length text + 1 < 2 ^ 64 → Reads p text → Ends listing_many result text }
 {
     let q = end_text(p);
@@ -261,7 +236,7 @@ pub fn finish(p: Parse) -> Input
 }
 
 // The same for the test load's refusal 9.
-pub fn finish_load(p: Parse) -> Input
+pub fn finish_load(p: Parse) -> Option<[u64; 115]>
     ensures { (text : List ℕ) → length text + 1 < 2 ^ 64 → Reads p text → Ends load_many result text }
 {
     let q = end_text(p);

@@ -3,53 +3,64 @@ pub mod decimal;
 pub mod formulas;
 pub mod lines;
 
-ghost use Rattle.std.specs.Prelude.{◌+◌, ◌*◌, ◌≤◌, ◌++◌, length};
+ghost use Rattle.std.specs.Prelude.{◌+◌, ◌*◌, ◌≤◌, length};
+ghost use Rattle.limits.specs.Refusal.{number_of};
 ghost use Rattle.text_print.specs.Text.{refused_line};
-ghost use Rattle.text_print.specs.Printing.{Wrote, text_max, refusal_max, atom_max, Stored, Shown, Printed, lines_text, numbers_at, formula_at};
+ghost use Rattle.text_print.specs.Printing.{Wrote, text_max, refusal_max, atom_max};
+ghost use Rattle.text_print.specs.Lent.{AreStored, AreShown, ArePrinted, atoms_text};
 
-// Writes the listing of n atoms and m pairs, and answers the place after it.
-pub fn print_listing(
-    out: &mut [u8],
-    lengths: &[u32],
-    ops: &[u8],
-    operands: &[u64],
-    costs: &[u32],
-    n: usize,
-    pairs: &[u32],
-    m: usize,
-    cut: bool,
-) -> usize
-    requires { Shown lengths.now ops.now operands.now costs.now n pairs.now m × (text_max ≤ length out.old) }
-    ensures { Printed lengths.now ops.now operands.now costs.now n pairs.now m cut out.old out.new result }
+use limits::Refusal;
+
+// The formulas and costs of n atoms, in a bank's arrays.
+#[derive(Clone, Copy)]
+pub struct Atoms<'a> {
+    pub lengths: &'a [u32],
+    pub ops: &'a [u8],
+    pub operands: &'a [u64],
+    pub costs: &'a [u32],
+    pub n: usize,
+}
+
+// The m pairs of an index, and its mark.
+#[derive(Clone, Copy)]
+pub struct Pairs<'a> {
+    pub numbers: &'a [u32],
+    pub m: usize,
+    pub cut: bool,
+}
+
+// Writes the listing of atoms and pairs, and answers the place after it.
+pub fn print_listing(out: &mut [u8], atoms: &Atoms<'_>, pairs: &Pairs<'_>) -> usize
+    requires { AreShown atoms.now pairs.now × (text_max ≤ length out.old) }
+    ensures { ArePrinted atoms.now pairs.now out.old out.new result }
 {
-    let head = lines::print_head(out, 0, n as u64, m as u64, cut);
-    let atoms = print_atoms(out, head, lengths, ops, operands, costs, n);
-    lines::print_lines(out, atoms, pairs, m)
+    let head = lines::print_head(out, 0, atoms.n as u64, pairs.m as u64, pairs.cut);
+    let after = print_atoms(out, head, atoms);
+    lines::print_lines(out, after, pairs.numbers, pairs.m)
 }
 
 // The cost lines of n atoms, and after them their formulas.
-fn print_atoms(
-    out: &mut [u8],
-    at: usize,
-    lengths: &[u32],
-    ops: &[u8],
-    operands: &[u64],
-    costs: &[u32],
-    n: usize,
-) -> usize
-    requires { (at + atom_max * n ≤ length out.old) × (3 * n ≤ length costs.now) × Stored lengths.now ops.now operands.now n }
-    ensures wrote { Wrote out.old at out.new result (lines_text (numbers_at costs.now) n ++ lines_text (formula_at lengths.now ops.now operands.now) n) }
-    ensures upper_bound { result ≤ at + atom_max * n }
+fn print_atoms(out: &mut [u8], at: usize, atoms: &Atoms<'_>) -> usize
+    requires { (at + atom_max * atoms.now.n ≤ length out.old) × (3 * atoms.now.n ≤ length atoms.now.costs.now) × AreStored atoms.now }
+    ensures wrote { Wrote out.old at out.new result (atoms_text atoms.now) }
+    ensures upper_bound { result ≤ at + atom_max * atoms.now.n }
 {
-    let after = lines::print_lines(out, at, costs, n);
-    formulas::print_formulas(out, after, lengths, ops, operands, n)
+    let after = lines::print_lines(out, at, atoms.costs, atoms.n);
+    formulas::print_formulas(
+        out,
+        after,
+        atoms.lengths,
+        atoms.ops,
+        atoms.operands,
+        atoms.n,
+    )
 }
 
 // Writes the line of a refusal, and answers the place after it.
-pub fn print_refusal(out: &mut [u8], number: u32) -> usize
+pub fn print_refusal(out: &mut [u8], refusal: Refusal) -> usize
     requires { refusal_max ≤ length out.old }
-    ensures wrote { Wrote out.old 0 out.new result (refused_line number) }
+    ensures wrote { Wrote out.old 0 out.new result (refused_line (number_of refusal)) }
     ensures upper_bound { result ≤ refusal_max }
 {
-    decimal::write_named(out, 0, b"refused ", number as u64, b'\n')
+    decimal::write_named(out, 0, b"refused ", u32::from(refusal) as u64, b'\n')
 }

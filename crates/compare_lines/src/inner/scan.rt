@@ -5,13 +5,11 @@ ghost use Rattle.std.specs.Prelude.{◌≤◌, length};
 #[derive(Clone, Copy)]
 pub struct Scan {
     pub count: usize,
-    pub value: u64,
-    // a number is being read
-    pub digits: bool,
+    // the number that is being read
+    pub value: Option<u64>,
     pub comment: bool,
     // something else stands in it, a number is too large, or there are too many
     pub bad: bool,
-    pub ended: bool,
 }
 
 impl Scan {
@@ -20,35 +18,27 @@ impl Scan {
     {
         Scan {
             count: 0,
-            value: 0,
-            digits: false,
+            value: None,
             comment: false,
             bad: false,
-            ended: false,
         }
     }
 
     // Nothing stands in the line.
     pub fn is_empty(self) -> bool {
-        if self.digits {
-            return false;
-        }
-        if self.bad {
-            return false;
-        }
-        self.count == 0
+        self.count == 0 && self.value.is_none() && !self.bad
     }
 
     fn with_digit(mut self, digit: u64) -> Self
         requires { digit ≤ 9 }
         ensures { result.count ≤ self.count }
     {
-        self.digits = true;
-        if (u64::MAX - digit) / 10 < self.value {
+        let value = self.value.unwrap_or(0);
+        if (u64::MAX - digit) / 10 < value {
             self.bad = true;
             return self;
         }
-        self.value = self.value * 10 + digit;
+        self.value = Some(value * 10 + digit);
         self
     }
 }
@@ -58,30 +48,27 @@ fn store(numbers: &mut [u64], mut s: Scan) -> Scan
     requires { s.count ≤ length numbers.old }
     ensures { result.count ≤ length numbers.new }
 {
-    if !s.digits {
+    let Some(value) = s.value else {
         return s;
-    }
+    };
     let at = s.count;
     if numbers.len() <= at {
         s.bad = true;
         return s;
     }
-    numbers[at] = s.value;
+    numbers[at] = value;
     s.count = at + 1;
-    s.value = 0;
-    s.digits = false;
+    s.value = None;
     s
 }
 
-// One byte more of the line.
+// One byte more of the line; a line end ends its last number.
 pub fn feed(numbers: &mut [u64], mut s: Scan, byte: u8) -> Scan
     requires { s.count ≤ length numbers.old }
     ensures { result.count ≤ length numbers.new }
 {
     if byte == b'\n' {
-        let mut t = store(numbers, s);
-        t.ended = true;
-        return t;
+        return store(numbers, s);
     }
     if s.comment {
         return s;

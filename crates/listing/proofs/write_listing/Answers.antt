@@ -1,7 +1,7 @@
 -- `listing::write_listing` meets its contract: what the end of the reading says chooses the text. Assumes nothing.
-use mathlib.Core.Path.{refl, sym, ◌∙◌}
+use mathlib.Core.Path.{refl, sym}
 use native.Mathlib.Omega.{arith}
-use borrow.Author.Tests.{not-true, not-false}
+use Rattle.limits.proofs.Answers.{number-positive}
 use Rattle.listing.proofs.Refusing.{none-refused}
 use Rattle.listing.proofs.Keeping.{listing_nine, given-refused, given-text, laid}
 use Rattle.listing.proofs.write_listing.Goals as goal
@@ -12,30 +12,27 @@ returns-then-out-lt-TEXT_MAX c = record {
   written = λ h. absurd (omega (arith, h, c.if-out-lt-TEXT_MAX.true));
 }
 
-pub returns-then-not-input : goal.returns-then-not-input
-returns-then-not-input c = record {
+pub returns-in_default : goal.returns-in_default
+returns-in_default c = record {
   short = λ h. absurd (omega (arith, h, c.if-out-lt-TEXT_MAX.false));
-  written = λ h text few reads. laid _ _ (listing_nine text ((c.finish-input.ensures text few reads).refused (not-true _ c.if-not-input.true))) c.print_refusal.ensures.wrote (omega (arith, c.print_refusal.ensures.upper_bound));
+  written = λ h text few reads. laid _ _ (listing_nine text ((c.in_default.ensures text few reads).refused refl)) c.print_refusal.ensures.wrote (omega (arith, c.print_refusal.ensures.upper_bound));
 }
 
-pub returns-then-number-ne0 : goal.returns-then-number-ne0
-returns-then-number-ne0 c = record {
+pub returns-in-Err : goal.returns-in-Err
+returns-in-Err c = record {
   short = λ h. absurd (omega (arith, h, c.if-out-lt-TEXT_MAX.false));
   written = λ h text few reads.
-      laid _ _ (given-refused text _ ((c.finish-input.ensures text few reads).given (not-false _ c.if-not-input.false)) _ c.refusal_of-number.ensures (omega (arith, c.if-number-ne0.true)))
-      c.print_refusal-then-number-ne0.ensures.wrote
-      (omega (arith, c.print_refusal-then-number-ne0.ensures.upper_bound));
+      laid _ _ (given-refused text _ ((c.in-Some.ensures text few reads).given _ refl) _ c.in-Err.ensures (number-positive c.in-Err.refusal))
+      c.print_refusal-in-Err.ensures.wrote
+      (omega (arith, c.print_refusal-in-Err.ensures.upper_bound));
 }
 
 pub list_numbers-requires : goal.list_numbers-requires
-list_numbers-requires c =
-    (none-refused _ (sym c.refusal_of-number.ensures ∙ c.if-number-ne0.false), omega (arith, c.if-out-lt-TEXT_MAX.false))
+list_numbers-requires c = (none-refused _ (sym c.in_default-check.ensures), omega (arith, c.if-out-lt-TEXT_MAX.false))
 
 pub returns : goal.returns
 returns c = record {
   short = λ h. absurd (omega (arith, h, c.if-out-lt-TEXT_MAX.false));
   written = λ h text few reads.
-      laid _ _ (given-text text _ ((c.finish-input.ensures text few reads).given (not-false _ c.if-not-input.false)) (sym c.refusal_of-number.ensures ∙ c.if-number-ne0.false))
-      c.list_numbers.ensures.wrote
-      c.list_numbers.ensures.upper_bound;
+      laid _ _ (given-text text _ ((c.in-Some.ensures text few reads).given _ refl) (sym c.in_default-check.ensures)) c.list_numbers.ensures.wrote c.list_numbers.ensures.upper_bound;
 }

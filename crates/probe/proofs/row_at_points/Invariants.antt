@@ -1,6 +1,6 @@
 -- `probe::row_at_points` meets its contract: the places passed hold the value at their points. Assumes nothing.
 use mathlib.Core.Path.{◌≡◌}
-use Prim.Native.Nat.{ℕ, ◌-◌, ◌≤◌}
+use Prim.Native.Nat.{ℕ}
 use lib.ListN.{length, get_or}
 use Rattle.arrays.proofs.Fill.{Filled}
 use Rattle.expr.specs.Formula.{tokens}
@@ -9,7 +9,4 @@ use Rattle.probe.proofs.row_at_points.Given as goal
 
 abbrev pub invariant-loop-k : goal.invariant-loop-k
 invariant-loop-k l =
-    (l.k ≤ 16) × ((length l.row ≡ 16) × Filled (λ (j : ℕ). get_or (row_of l.w l.points (tokens l.count l.ops l.operands)) j 0) l.row l.k)
-
-abbrev pub decreases-loop-k : goal.decreases-loop-k
-decreases-loop-k l = 16 - l.k
+    (length l.row ≡ 16) × Filled (λ (j : ℕ). get_or (row_of l.w l.points (tokens l.count l.ops l.operands)) j 0) l.row l.k

@@ -1,7 +1,6 @@
 -- `row_fingerprint::fingerprint` meets its contract: what is folded so far and the words to come give the whole. Assumes nothing.
 use mathlib.Core.Path.{refl, sym, ap, ◌∙◌}
 use Prim.Native.Nat.{ℕ, ◌+◌}
-use native.Mathlib.Omega.{arith}
 use borrow.Author.Rules.{rules}
 use lib.ListN.{drop}
 use Rattle.row_fingerprint.specs.Fingerprint.{mixed, finished, fingerprint_of}
@@ -10,17 +9,15 @@ use Rattle.row_fingerprint.proofs.fingerprint.Goals as goal
 
 pub loop-i-init : goal.loop-i-init
 unfolding fingerprint_of
-loop-i-init c = (omega arith, refl)
+loop-i-init c = refl
 
 pub loop-i-preserved : goal.loop-i-preserved
 loop-i-preserved c =
-    let row = c.args.row in (
-      omega arith,
-      ap (λ (x : ℕ). finished (mixed x (drop (c.loop-i.i + 1) row))) c.mix_word-h.ensures
-          ∙ ap finished (sym (mixed-step c.loop-i.h row c.loop-i.i (search rules)))
-          ∙ c.loop-i.invariant.1,
-    )
+    let row = c.args.row in
+    ap (λ (x : ℕ). finished (mixed x (drop (c.loop-i.i + 1) row))) c.mix_word-h.ensures
+    ∙ ap finished (sym (mixed-step c.loop-i.h row c.loop-i.i (search rules)))
+    ∙ c.loop-i.invariant
 
 pub returns : goal.returns
 returns c =
-    c.finish.ensures ∙ ap finished (sym (mixed_end c.loop-i.h c.args.row c.loop-i.i (search rules))) ∙ c.loop-i.invariant.1
+    c.finish.ensures ∙ ap finished (sym (mixed_end c.loop-i.h c.args.row c.loop-i.i (search rules))) ∙ c.loop-i.invariant

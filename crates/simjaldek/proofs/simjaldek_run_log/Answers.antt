@@ -1,31 +1,36 @@
 -- `simjaldek_run_log` meets its contract: what is taken of the log out of its numbers, or beside a refusal the log as it was lent. Assumes nothing.
 use mathlib.Core.Path.{◌≡◌, sym, ap, ◌∙◌}
+use mathlib.Core.List.{List}
 use Prim.Native.Nat.{ℕ}
-use native.Mathlib.Omega.{arith}
-use Rattle.limits.proofs.Refusals.{unless_refused_lem, unless_not}
-use Rattle.log_run.specs.declared.Log.{Log}
-use Rattle.log_run.specs.Steps.{took_says}
+use Rattle.std.specs.Prelude.{Result, Ok, Err}
+use Rattle.limits.specs.Refusal.{number_of}
+use Rattle.limits.specs.declared.Refusal.{Refusal}
+use Rattle.limits.proofs.Answers.{number-positive}
+use Rattle.limits.proofs.Refusals.{unless_refused_lem}
+use Rattle.log_run.specs.declared.Shown.{Shown}
+use Rattle.log_run.specs.Step.{Reply}
+use Rattle.log_run.specs.Steps.{took_of, took_says}
 use Rattle.simjaldek_abi.specs.declared.LogState.{LogState}
 use Rattle.simjaldek_abi.specs.declared.LogReply.{LogReply}
 use Rattle.simjaldek_abi.specs.Reply.{log_of, log_state, log_reply}
 use Rattle.simjaldek.proofs.simjaldek_run_log.Goals as goal
 
-pub returns-then-x-ne0 : goal.returns-then-x-ne0
-returns-then-x-ne0 c =
-    let a = c.args in
-    let same = sym (unless_refused_lem c.take-x.result.refusal (log_state (took_says (log_of a.log) c.take-x.new.seen c.take-x.result).log) a.log (omega (arith, c.if-x-ne0.true))) in
-    let reply : ◌≡◌ {A = LogReply} (record { refusal = c.take-x.result.refusal; log = a.log }) (log_reply a.log (took_says (log_of a.log) c.take-x.new.seen c.take-x.result)) =
-    (λ i. record { refusal = c.take-x.result.refusal; log = same i }) in
-    reply ∙ ap (log_reply a.log) c.take-x.ensures
+-- what the log says where these windows are left and this was taken
+abbrev said : LogState → List ℕ → Result Shown Refusal → Reply
+said log after x = took_says (log_of log) after (took_of (log_of log).shown x)
 
-pub returns : goal.returns
-returns c =
+pub returns-in-Ok : goal.returns-in-Ok
+returns-in-Ok c =
     let a = c.args in
-    let none = c.if-x-ne0.false in
-    let after : Log = record { windows = c.take-x.new.seen; shown = c.take-x.result.shown; begun = (log_of a.log).begun } in
     let numbers : ℕ → LogState =
-    (λ o. record { «open» = o; rank = c.take-x.result.shown.rank; number = c.take-x.result.shown.number; closed_at = c.take-x.result.shown.close; later = c.take-x.result.shown.later; windows = c.take-x.new.seen }) in
-    let same =
-    ap numbers c.mark_of.ensures ∙ ap log_state (sym (unless_not c.take-x.result.refusal after (log_of a.log) none)) ∙ sym (unless_not c.take-x.result.refusal (log_state (took_says (log_of a.log) c.take-x.new.seen c.take-x.result).log) a.log none) in
-    let reply : ◌≡◌ {A = LogReply} (record { refusal = 0; log = numbers c.mark_of.result }) (log_reply a.log (took_says (log_of a.log) c.take-x.new.seen c.take-x.result)) = (λ i. record { refusal = sym none i; log = same i }) in
-    reply ∙ ap (log_reply a.log) c.take-x.ensures
+    (λ o. record { «open» = o; rank = c.in-Ok.shown.rank; number = c.in-Ok.shown.number; closed_at = c.in-Ok.shown.close; later = c.in-Ok.shown.later; windows = c.take-x.new.seen }) in
+    let reply : ◌≡◌ {A = LogReply} (record { refusal = 0; log = numbers c.mark_of.result }) (log_reply a.log (said a.log c.take-x.new.seen (Ok c.in-Ok.shown))) = (λ i. record { refusal = 0; log = numbers (c.mark_of.ensures i) }) in
+    reply ∙ ap (λ (x : Result Shown Refusal). log_reply a.log (said a.log c.take-x.new.seen x)) (sym c.in-Ok.is) ∙ ap (log_reply a.log) c.take-x.ensures
+
+pub returns-in-Err : goal.returns-in-Err
+returns-in-Err c =
+    let a = c.args in
+    let n = number_of c.in-Err.refusal in
+    let same = sym (unless_refused_lem n (log_state (said a.log c.take-x.new.seen (Err c.in-Err.refusal)).log) a.log (number-positive c.in-Err.refusal)) in
+    let reply : ◌≡◌ {A = LogReply} (record { refusal = c.from.result; log = a.log }) (log_reply a.log (said a.log c.take-x.new.seen (Err c.in-Err.refusal))) = (λ i. record { refusal = c.from.ensures i; log = same i }) in
+    reply ∙ ap (λ (x : Result Shown Refusal). log_reply a.log (said a.log c.take-x.new.seen x)) (sym c.in-Err.is) ∙ ap (log_reply a.log) c.take-x.ensures

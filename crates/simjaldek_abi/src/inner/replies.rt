@@ -1,31 +1,34 @@
 // The calls' answers as replies: an enum's case as a number beside its values; rows, points and tokens by their words. A refusal has zeros beside it.
 ghost use Rattle.std.specs.Prelude.{◌≡◌, map};
-ghost use Rattle.row_gates.specs.Gates.{gate_at, match_says};
-ghost use Rattle.expr_eval.specs.Answers.{value_says};
-ghost use Rattle.bank.specs.Build.{bank_says};
-ghost use Rattle.bank_lookup.specs.Lookup.{found_says};
-ghost use Rattle.search_candidates.specs.Candidates.{candidates_say};
-ghost use Rattle.index.specs.Build.{index_says};
-ghost use Rattle.search_product.specs.Answer.{product_says};
-ghost use Rattle.search_residual.specs.Answer.{residual_says};
+ghost use Rattle.limits.specs.Refusal.{says, says_by};
+ghost use Rattle.row_gates.specs.Gates.{gate_at};
+ghost use Rattle.rule_run.specs.Window.{replied};
+ghost use Rattle.bank_lookup.specs.Lookup.{slot_number};
+ghost use Rattle.search_candidates.specs.Candidates.{counted};
+ghost use Rattle.search_product_trial.specs.Stages.{found_says};
+ghost use Rattle.search_residual_trial.specs.Steps.{found_says as completion_says};
 ghost use Rattle.simjaldek_abi.specs.Slices.{row_in, two_short, gate_refusal};
-ghost use Rattle.simjaldek_abi.specs.Reply.{refused_reply, reply, mark_of, number_reply, index_reply, product_reply, refused_residual, completed, residual_reply, option_reply, match_reply, word_reply, row_reply, refused_row, point_words, gate_call, row_or_else, token_parts, token_reply, log_of, log_state};
+ghost use Rattle.simjaldek_abi.specs.Reply.{refused_reply, reply, mark_of, number_reply, index_reply, product_reply, refused_residual, completed, residual_reply, option_reply, match_reply, word_reply, cost_reply, row_reply, refused_row, point_words, gate_call, or_else, token_parts, token_reply, formula_reply, rule_reply, log_of, log_state};
 
 use crate::inner::slices;
-use crate::{LogState, PointWords, Reply, ResidualReply, RowReply, TokenReply, WordReply};
-use bank::BankAnswer;
-use bank_lookup::FoundRow;
+use crate::{
+    CostReply, FormulaReply, LogState, PointWords, Reply, ResidualReply, RowReply, RuleReply,
+    TokenReply, WordReply,
+};
 use expr::Token;
-use expr_eval::Value;
-use index::IndexAnswer;
+use expr_cost::Cost;
+use index::BuiltIndex;
+use limits::Refusal;
+use load_draw::DrawnFormula;
 use log_run::{Log, Shown};
 use probe_points::{POINT_WORDS, POINTS, Point};
-use row_gates::{Match, ROW_WORDS, RowAnswer};
-use search_candidates::CandidatesAnswer;
-use search_product::ProductAnswer;
-use search_residual::ResidualAnswer;
+use row_gates::{Gate, ROW_WORDS};
+use row_lent::AtomSlot;
+use rule_run::RuleState;
+use search_product_trial::inner::Found;
+use search_residual_trial::inner::Found as Completion;
 
-// A reply that is only a refusal.
+// A reply that is only a refusal, by the number that C knows.
 pub fn refused(refusal: u32) -> Reply
     ensures { result ≡ refused_reply refusal }
 {
@@ -50,14 +53,14 @@ pub fn answer(kind: u32, a: u32, b: u32) -> Reply
 }
 
 // Kind 0 nothing, 1 two atoms, 2 an atom and a pair.
-pub fn of_product(x: ProductAnswer) -> Reply
-    ensures { result ≡ product_reply (product_says x) }
+pub fn of_product(x: Result<Option<Found>, Refusal>) -> Reply
+    ensures { result ≡ product_reply (says_by found_says x) }
 {
     match x {
-        ProductAnswer::Atoms(a, b) => answer(1, a.0, b.0),
-        ProductAnswer::AtomPair(a, s) => answer(2, a.0, s.0),
-        ProductAnswer::Nothing => answer(0, 0, 0),
-        ProductAnswer::Refused(number) => refused(number),
+        Ok(Some(Found::Atoms(a, b))) => answer(1, a.0, b.0),
+        Ok(Some(Found::AtomPair(a, s))) => answer(2, a.0, s.0),
+        Ok(None) => answer(0, 0, 0),
+        Err(refusal) => refused(u32::from(refusal)),
     }
 }
 
@@ -88,39 +91,35 @@ pub fn completion(kind: u32, gate: u32, a: u32, b: u32) -> ResidualReply
 }
 
 // Kind 0 nothing, 1 two atoms, 2 an atom and a pair; the outer gate by its number.
-pub fn of_residual(x: ResidualAnswer) -> ResidualReply
-    ensures { result ≡ residual_reply (residual_says x) }
+pub fn of_residual(x: Result<Option<Completion>, Refusal>) -> ResidualReply
+    ensures { result ≡ residual_reply (says_by completion_says x) }
 {
     match x {
-        ResidualAnswer::Atoms(g, a, b) => {
-            completion(1, row_gates::inner::gate_number(g), a.0, b.0)
-        }
-        ResidualAnswer::AtomPair(g, a, s) => {
-            completion(2, row_gates::inner::gate_number(g), a.0, s.0)
-        }
-        ResidualAnswer::Nothing => completion(0, 0, 0, 0),
-        ResidualAnswer::Refused(number) => refused_residual(number),
+        Ok(Some(Completion::Atoms(g, a, b))) => completion(1, u32::from(g), a.0, b.0),
+        Ok(Some(Completion::AtomPair(g, a, s))) => completion(2, u32::from(g), a.0, s.0),
+        Ok(None) => completion(0, 0, 0, 0),
+        Err(refusal) => refused_residual(u32::from(refusal)),
     }
 }
 
 // Kind 1 with the slot, 0 none.
-pub fn of_slot(x: FoundRow) -> Reply
-    ensures { result ≡ option_reply (found_says x) }
+pub fn of_slot(x: Result<Option<AtomSlot>, Refusal>) -> Reply
+    ensures { result ≡ option_reply (says_by slot_number x) }
 {
     match x {
-        FoundRow::At(slot) => answer(1, slot.0, 0),
-        FoundRow::Nothing => answer(0, 0, 0),
-        FoundRow::Refused(number) => refused(number),
+        Ok(Some(slot)) => answer(1, slot.0, 0),
+        Ok(None) => answer(0, 0, 0),
+        Err(refusal) => refused(u32::from(refusal)),
     }
 }
 
-// The count of atoms.
-pub fn of_bank(x: BankAnswer) -> Reply
-    ensures { result ≡ number_reply (bank_says x) }
+// A number: the count of atoms, or where a row begins.
+pub fn of_number(x: Result<u32, Refusal>) -> Reply
+    ensures { result ≡ number_reply (says x) }
 {
     match x {
-        BankAnswer::Built(count) => answer(0, count, 0),
-        BankAnswer::Refused(number) => refused(number),
+        Ok(count) => answer(0, count, 0),
+        Err(refusal) => refused(u32::from(refusal)),
     }
 }
 
@@ -128,60 +127,94 @@ pub fn of_bank(x: BankAnswer) -> Reply
 pub fn mark_of(mark: bool) -> u32
     ensures { result ≡ mark_of mark }
 {
-    if mark {
-        return 1;
-    }
-    0
+    u32::from(mark)
 }
 
 // The count of pairs, and the mark "cut".
-pub fn of_index(x: IndexAnswer) -> Reply
-    ensures { result ≡ index_reply (index_says x) }
+pub fn of_index(x: Result<BuiltIndex, Refusal>) -> Reply
+    ensures { result ≡ index_reply (says x) }
 {
     match x {
-        IndexAnswer::Built { pairs, cut } => answer(0, pairs, mark_of(cut)),
-        IndexAnswer::Refused(number) => refused(number),
+        Ok(index) => answer(0, index.pairs, mark_of(index.cut)),
+        Err(reason) => refused(u32::from(reason)),
     }
 }
 
 // Kind 1 with the count of candidates, 0 "not used".
-pub fn of_candidates(x: CandidatesAnswer) -> Reply
-    ensures { result ≡ option_reply (candidates_say x) }
+pub fn of_candidates(x: Result<Option<u32>, Refusal>) -> Reply
+    ensures { result ≡ option_reply (says_by counted x) }
 {
     match x {
-        CandidatesAnswer::Used(count) => answer(1, count, 0),
-        CandidatesAnswer::NotUsed => answer(0, 0, 0),
-        CandidatesAnswer::Refused(number) => refused(number),
+        Ok(Some(count)) => answer(1, count, 0),
+        Ok(None) => answer(0, 0, 0),
+        Err(refusal) => refused(u32::from(refusal)),
     }
 }
 
 // Kind 1 the same, 0 different.
-pub fn of_match(x: Match) -> Reply
-    ensures { result ≡ match_reply (match_says x) }
+pub fn of_match(x: Result<bool, Refusal>) -> Reply
+    ensures { result ≡ match_reply (says x) }
 {
     match x {
-        Match::Same => answer(1, 0, 0),
-        Match::Different => answer(0, 0, 0),
-        Match::Refused(number) => refused(number),
+        Ok(true) => answer(1, 0, 0),
+        Ok(false) => answer(0, 0, 0),
+        Err(refusal) => refused(u32::from(refusal)),
     }
 }
 
-pub fn of_value(x: Value) -> WordReply
-    ensures { result ≡ word_reply (value_says x) }
+pub fn of_value(x: Result<u64, Refusal>) -> WordReply
+    ensures { result ≡ word_reply (says x) }
 {
     match x {
-        Value::Word(word) => WordReply { refusal: 0, word },
-        Value::Refused(refusal) => WordReply { refusal, word: 0 },
+        Ok(word) => WordReply { refusal: 0, word },
+        Err(refusal) => WordReply {
+            refusal: u32::from(refusal),
+            word: 0,
+        },
     }
 }
 
-pub fn of_row(x: RowAnswer) -> RowReply
-    ensures { result ≡ row_reply x }
+pub fn of_cost(x: Result<Cost, Refusal>) -> CostReply
+    ensures { result ≡ cost_reply (says x) }
 {
-    let row = x.row;
-    RowReply {
-        refusal: x.refusal,
-        row,
+    match x {
+        Ok(cost) => CostReply {
+            refusal: 0,
+            size: cost.size,
+            products: cost.products,
+            depth: cost.depth,
+        },
+        Err(refusal) => CostReply {
+            refusal: u32::from(refusal),
+            size: 0,
+            products: 0,
+            depth: 0,
+        },
+    }
+}
+
+// Beside a refusal the state that was lent.
+pub fn of_rule(x: Result<RuleState, Refusal>, lent: u64) -> RuleReply
+    ensures { result ≡ rule_reply (replied (record { past = lent }) x) }
+{
+    match x {
+        Ok(state) => RuleReply {
+            refusal: 0,
+            state: state.past,
+        },
+        Err(refusal) => RuleReply {
+            refusal: u32::from(refusal),
+            state: lent,
+        },
+    }
+}
+
+pub fn of_row(x: Result<[u64; 16], Refusal>) -> RowReply
+    ensures { result ≡ row_reply (says x) }
+{
+    match x {
+        Ok(row) => RowReply { refusal: 0, row },
+        Err(refusal) => refused_row(u32::from(refusal)),
     }
 }
 
@@ -199,13 +232,10 @@ pub fn of_points(made: [Point; 16]) -> [PointWords; 16]
     let mut points = [PointWords {
         words: [0; POINT_WORDS],
     }; POINTS];
-    let mut k: usize = 0;
-    while k < POINTS {
-        let p = made[k];
-        let words = p.words;
-        let q = PointWords { words };
-        points[k] = q;
-        k += 1;
+    for k in 0..POINTS {
+        points[k] = PointWords {
+            words: made[k].words,
+        };
     }
     points
 }
@@ -229,6 +259,24 @@ pub fn of_token(t: Token) -> TokenReply
         Token::Not => token(7, 0),
         Token::Neg => token(8, 0),
         Token::Bad => token(255, 0),
+    }
+}
+
+// How many tokens were drawn, and the state handed on; no token and the state as it was lent beside a refusal.
+pub fn of_formula(x: Result<DrawnFormula, Refusal>, lent: u64) -> FormulaReply
+    ensures { result ≡ formula_reply lent (says x) }
+{
+    match x {
+        Ok(drawn) => FormulaReply {
+            refusal: 0,
+            count: drawn.count,
+            state: drawn.state,
+        },
+        Err(refusal) => FormulaReply {
+            refusal: u32::from(refusal),
+            count: 0,
+            state: lent,
+        },
     }
 }
 
@@ -267,16 +315,19 @@ pub fn log_state(log: Log) -> LogState
 
 // The gate with number g on two rows, or, where `undo` is set, the row that completes b to the target a under it. Refuses 2, 4, and 6 for a number above 4.
 pub fn of_gate(undo: bool, a: &[u64], b: &[u64], g: u32, w: u32) -> RowReply
-    ensures { result ≡ row_or_else (gate_refusal w (two_short a.now b.now) g) (gate_call undo (gate_at g) w (row_in a.now) (row_in b.now)) }
+    ensures { result ≡ row_reply (or_else (gate_refusal w (two_short a.now b.now) g) (gate_call undo (gate_at g) w (row_in a.now) (row_in b.now))) }
 {
-    let refusal = slices::gate_refusal(w, slices::two_short(a, b), g);
-    if refusal != 0 {
-        return refused_row(refusal);
-    }
+    of_row(gate_on(undo, a, b, g, w))
+}
+
+fn gate_on(undo: bool, a: &[u64], b: &[u64], g: u32, w: u32) -> Result<[u64; 16], Refusal>
+    ensures { says result ≡ or_else (gate_refusal w (two_short a.now b.now) g) (gate_call undo (gate_at g) w (row_in a.now) (row_in b.now)) }
+{
+    let gate = slices::gate_in(w, slices::two_short(a, b), g)?;
     let left = row_lent::inner::load_row(a, 0);
     let right = row_lent::inner::load_row(b, 0);
     if undo {
-        return of_row(row_gates::gate_residual(left, right, row_gates::inner::gate_at(g), w));
+        return row_gates::gate_residual(left, right, gate, w);
     }
-    of_row(row_gates::gate_apply(left, right, row_gates::inner::gate_at(g), w))
+    row_gates::gate_apply(left, right, gate, w)
 }

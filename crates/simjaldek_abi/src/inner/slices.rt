@@ -1,56 +1,56 @@
 // Points and rows that come as slices, and what is refused before a call.
 ghost use Rattle.std.specs.Prelude.{◌≡◌, ◌+◌, ◌*◌, ◌≤◌, length};
-ghost use Rattle.simjaldek_abi.specs.Slices.{row_refusal, points_refusal, points_row_refusal, point_in, points_in, two_short, three_short, gate_refusal};
+ghost use Rattle.limits.specs.Refusal.{refusal_of, says, outcome};
+ghost use Rattle.row_gates.specs.Gates.{gate_at};
+ghost use Rattle.simjaldek_abi.specs.Slices.{row_in, row_refusal, points_refusal, points_row_refusal, point_in, points_in, two_short, three_short, gate_refusal};
 
+use limits::Refusal;
 use probe_points::{POINT_WORDS, POINTS, Point};
-use row_gates::ROW_WORDS;
+use row_gates::{Gate, ROW_WORDS};
 
-// The refusal of a width and a row, 0 for none.
-pub fn row_refusal(w: u32, row: &[u64]) -> u32
-    ensures { result ≡ row_refusal w row.now }
+// A row, beside a width.
+pub fn row_of(w: u32, row: &[u64]) -> Result<[u64; 16], Refusal>
+    ensures { says result ≡ outcome (row_refusal w row.now) (row_in row.now) }
 {
     if limits::inner::bad_width(w) {
-        return 2;
+        return Err(Refusal::Width);
     }
     if row.len() < ROW_WORDS {
-        return 4;
+        return Err(Refusal::ShortArray);
     }
-    0
+    Ok(row_lent::inner::load_row(row, 0))
 }
 
-// The same of a variable count, a width and points.
-pub fn points_refusal(nv: u32, w: u32, points: &[u64]) -> u32
-    ensures { result ≡ points_refusal nv w points.now }
+// Whether a variable count, a width and points are refused.
+pub fn check_points(nv: u32, w: u32, points: &[u64]) -> Result<(), Refusal>
+    ensures { refusal_of result ≡ points_refusal nv w points.now }
 {
     if limits::inner::bad_count(nv) {
-        return 1;
+        return Err(Refusal::VariableCount);
     }
     if limits::inner::bad_width(w) {
-        return 2;
+        return Err(Refusal::Width);
     }
     if points.len() < POINTS * POINT_WORDS {
-        return 4;
+        return Err(Refusal::ShortArray);
     }
-    0
+    Ok(())
 }
 
 // The same with a row.
-pub fn points_row_refusal(nv: u32, w: u32, points: &[u64], row: &[u64]) -> u32
-    ensures { result ≡ points_row_refusal nv w points.now row.now }
+pub fn check_points_row(nv: u32, w: u32, points: &[u64], row: &[u64]) -> Result<(), Refusal>
+    ensures { refusal_of result ≡ points_row_refusal nv w points.now row.now }
 {
     if limits::inner::bad_count(nv) {
-        return 1;
+        return Err(Refusal::VariableCount);
     }
     if limits::inner::bad_width(w) {
-        return 2;
+        return Err(Refusal::Width);
     }
-    if points.len() < POINTS * POINT_WORDS {
-        return 4;
+    if points.len() < POINTS * POINT_WORDS || row.len() < ROW_WORDS {
+        return Err(Refusal::ShortArray);
     }
-    if row.len() < ROW_WORDS {
-        return 4;
-    }
-    0
+    Ok(())
 }
 
 // Point k.
@@ -60,7 +60,7 @@ fn point_of(words: &[u64], k: usize) -> Point
 {
     let base = POINT_WORDS * k;
     let mut point = [0u64; POINT_WORDS];
-    arrays::inner::copy_words(&mut point, &words[base..base + POINT_WORDS]);
+    point.copy_from_slice(&words[base..base + POINT_WORDS]);
     Point { words: point }
 }
 
@@ -72,11 +72,8 @@ pub fn points_of(words: &[u64]) -> [Point; 16]
     let mut points = [Point {
         words: [0; POINT_WORDS],
     }; POINTS];
-    let mut k: usize = 0;
-    while k < POINTS {
-        let p = point_of(words, k);
-        points[k] = p;
-        k += 1;
+    for k in 0..POINTS {
+        points[k] = point_of(words, k);
     }
     points
 }
@@ -85,34 +82,25 @@ pub fn points_of(words: &[u64]) -> [Point; 16]
 pub fn two_short(a: &[u64], b: &[u64]) -> bool
     ensures { result ≡ two_short a.now b.now }
 {
-    if a.len() < ROW_WORDS {
-        return true;
-    }
-    b.len() < ROW_WORDS
+    a.len() < ROW_WORDS || b.len() < ROW_WORDS
 }
 
 // The same of three.
 pub fn three_short(a: &[u64], b: &[u64], c: &[u64]) -> bool
     ensures { result ≡ three_short a.now b.now c.now }
 {
-    if two_short(a, b) {
-        return true;
-    }
-    c.len() < ROW_WORDS
+    two_short(a, b) || c.len() < ROW_WORDS
 }
 
-// The refusal of a width, rows and a gate's number.
-pub fn gate_refusal(w: u32, short: bool, g: u32) -> u32
-    ensures { result ≡ gate_refusal w short g }
+// The gate of a number, beside a width and the test of the rows.
+pub fn gate_in(w: u32, short: bool, g: u32) -> Result<Gate, Refusal>
+    ensures { says result ≡ outcome (gate_refusal w short g) (gate_at g) }
 {
     if limits::inner::bad_width(w) {
-        return 2;
+        return Err(Refusal::Width);
     }
     if short {
-        return 4;
+        return Err(Refusal::ShortArray);
     }
-    if 4 < g {
-        return 6;
-    }
-    0
+    Gate::try_from(g)
 }

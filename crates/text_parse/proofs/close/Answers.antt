@@ -5,4 +5,4 @@ use Rattle.text_parse.proofs.close.Goals as goal
 
 pub returns : goal.returns
 returns c =
-    closed _ _ c.requires.0 c.requires.1 (omega arith) c.keep.ensures c.wrapping_add_u64.ensures.value refl refl refl
+    closed _ _ c.requires.0 c.requires.1 (omega arith) c.keep.ensures refl refl refl refl

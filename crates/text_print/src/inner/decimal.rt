@@ -15,6 +15,8 @@ const LANES_3: u64 = 0x1_0000_0000_0000;
 // The bytes of eight zeros.
 const ZEROS: u64 = 0x3030_3030_3030_3030;
 
+// A function for each count of digits, and no loop: each divides by constants of its own, and its callers know how many bytes it writes at most.
+
 // The digits of x: eight at a time from the end, while there are more than eight.
 pub fn write_decimal(out: &mut [u8], at: usize, x: u64) -> usize
     requires { at + decimal_max ≤ length out.old }
@@ -161,12 +163,9 @@ pub fn put(out: &mut [u8], at: usize, s: &[u8]) -> usize
     requires { at + length s.now ≤ length out.old }
     ensures { Wrote out.old at out.new result s.now }
 {
-    let mut i: usize = 0;
-    while i < s.len() {
-        out[at + i] = s[i];
-        i += 1;
-    }
-    at + i
+    let end = at + s.len();
+    out[at..end].copy_from_slice(s);
+    end
 }
 
 // A word, and a number after it.

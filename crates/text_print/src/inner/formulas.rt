@@ -26,13 +26,11 @@ pub fn print_formulas(
     ensures upper_bound { result ≤ at + formula_max * n }
 {
     let mut p = at;
-    let mut k: usize = 0;
-    while k < n {
+    for k in 0..n {
         let start = TOKENS * k;
         let end = TOKENS * k + TOKENS;
         let count = lengths[k] as usize;
         p = print_formula(out, p, &ops[start..end], &operands[start..end], count);
-        k += 1;
     }
     p
 }
@@ -44,10 +42,8 @@ pub fn print_formula(out: &mut [u8], at: usize, ops: &[u8], operands: &[u64], co
     ensures upper_bound { result ≤ at + next_max * count + 1 }
 {
     let mut p = at;
-    let mut i: usize = 0;
-    while i < count {
+    for i in 0..count {
         p = print_next(out, p, i, expr::token_at(ops, operands, i));
-        i += 1;
     }
     out[p] = b'\n';
     p + 1
@@ -115,7 +111,7 @@ fn print_sign(out: &mut [u8], at: usize, sign: u8) -> usize
     at + 1
 }
 
-// The sign of a token, 0 where it has none.
+// The sign of a token, 0 where it has none. Not an Option: no sign is 0, the definition has the number too, and `print_token` makes one comparison.
 fn sign_of(t: Token) -> u8
     ensures { result ≡ sign_of t }
 {

@@ -35,10 +35,8 @@ pub fn print_lines(out: &mut [u8], at: usize, numbers: &[u32], n: usize) -> usiz
     ensures upper_bound { result ≤ at + numbers_max * n }
 {
     let mut p = at;
-    let mut k: usize = 0;
-    while k < n {
+    for k in 0..n {
         p = print_line(out, p, numbers, k);
-        k += 1;
     }
     p
 }

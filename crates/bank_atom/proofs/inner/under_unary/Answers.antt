@@ -5,4 +5,4 @@ use Rattle.bank_atom.proofs.inner.under_unary.Goals as goal
 pub returns : goal.returns
 returns c =
     let s = c.args in
-    under_unary_is s.w _ s.u s.e _ c.unary_opcode.ensures c.with_token-text.ensures c.under_unary-cost.ensures c.unary_row-row.ensures
+    under_unary_is s.w _ s.u s.e _ c.from.ensures c.with_token-text.ensures c.under_unary-cost.ensures c.unary_row-row.ensures

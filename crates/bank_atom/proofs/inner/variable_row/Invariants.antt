@@ -1,7 +1,7 @@
 -- `bank_atom::inner::variable_row` meets its contract: the places passed hold the reduced word of their points. Assumes nothing.
 use mathlib.Core.Path.{◌≡◌}
 use mathlib.Core.List.{[], ◌∷◌}
-use Prim.Native.Nat.{ℕ, ◌-◌, ◌≤◌}
+use Prim.Native.Nat.{ℕ}
 use lib.ListN.{length, get_or}
 use Rattle.arrays.proofs.Fill.{Filled}
 use Rattle.expr.specs.declared.Token.TheVariants.{Variable}
@@ -10,7 +10,4 @@ use Rattle.bank_atom.proofs.inner.variable_row.Given as goal
 
 abbrev pub invariant-loop-k : goal.invariant-loop-k
 invariant-loop-k l =
-    (l.k ≤ 16) × ((length l.row ≡ 16) × Filled (λ (j : ℕ). get_or (row_of l.w l.points (Variable l.i ∷ [])) j 0) l.row l.k)
-
-abbrev pub decreases-loop-k : goal.decreases-loop-k
-decreases-loop-k l = 16 - l.k
+    (length l.row ≡ 16) × Filled (λ (j : ℕ). get_or (row_of l.w l.points (Variable l.i ∷ [])) j 0) l.row l.k

@@ -6,4 +6,4 @@ use Rattle.bank_parts.proofs.inner.load_ops.Goals as goal
 pub returns : goal.returns
 returns c =
     let s = c.args in
-    c.copy_bytes.ensures ∙ part_is 6 s.ops.now s.slot.0
+    c.copy_from_slice.ensures.after ∙ part_is 6 s.ops.now s.slot.0

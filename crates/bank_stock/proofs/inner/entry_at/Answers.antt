@@ -1,7 +1,7 @@
 -- `bank_stock::inner::entry_at` meets its contract, place by place. Assumes nothing.
 use mathlib.Core.Path.{sym, ap, ◌∙◌}
 use Rattle.bank_stock.specs.Cursor.{form_of}
-use Rattle.bank_stock.proofs.Forms.{entry-form, pair-form}
+use Rattle.bank_stock.proofs.Forms.{entry-form, gates_at, pair-form}
 use Rattle.bank_stock.proofs.Walk.{within-variable, within_pair, within_difference}
 use native.Mathlib.Omega.{arith}
 use borrow.Author.Rules.{rules}
@@ -38,7 +38,8 @@ pub returns-in-Pair : goal.returns-in-Pair
 unfolding form_of
 returns-in-Pair c =
     let s = c.args in
-    entry-form s.w s.points c.pair_at.ensures (pair-form _ _ c.in-Pair.k _ c.gate_at.ensures ∙ ap (form_of s.w) (sym c.in-Pair.is))
+    let v = within_pair c.args.nv c.in-Pair.is c.requires.1.within in
+    entry-form s.w s.points c.pair_at.ensures (pair-form _ _ c.in-Pair.k _ (gates_at c.in-Pair.k _ v.gate) ∙ ap (form_of s.w) (sym c.in-Pair.is))
 
 pub returns-in-Difference : goal.returns-in-Difference
 unfolding form_of

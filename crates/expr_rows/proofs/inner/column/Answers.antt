@@ -1,6 +1,6 @@
 -- `expr_rows::inner::column` meets its contract: the places passed hold the reduced words. Assumes nothing.
-use mathlib.Core.Path.{refl, ap, ◌∙◌}
-use Prim.Native.Nat.{ℕ, ◌+◌, ◌-◌, ◌*◌, ◌%◌}
+use mathlib.Core.Path.{ap, ◌∙◌}
+use Prim.Native.Nat.{ℕ, ◌+◌, ◌*◌, ◌%◌}
 use native.Mathlib.Omega.{arith}
 use borrow.Author.Rules.{rules}
 use lib.ListN.{get_or, length-set}
@@ -8,9 +8,6 @@ use Rattle.arith.proofs.Remainders.{modulus-is}
 use Rattle.arrays.proofs.Fill.{filled_more}
 use Rattle.arrays.proofs.Parts.{part_within}
 use Rattle.expr_rows.proofs.inner.column.Goals as goal
-
-pub loop-j-init : goal.loop-j-init
-loop-j-init c = (search rules, (refl, λ k h. absurd (omega arith)))
 
 pub overflow_mul-nv : goal.overflow_mul-nv
 overflow_mul-nv c =
@@ -34,7 +31,7 @@ bounds-records-nv c =
 pub loop-j-preserved : goal.loop-j-preserved
 loop-j-preserved c =
     let l = c.loop-j in
-    (omega arith, (simp length-set (omega arith), filled_more _ l.row l.j c.reduce.result (omega arith) l.invariant.1.1 (c.reduce.ensures ∙ ap (λ (m : ℕ). get_or c.args.records.now (c.args.nv * l.j + c.args.i) 0 % m) (modulus-is c.args.w c.requires.0))))
+    (simp length-set (omega arith), filled_more _ l.row l.j c.reduce.result (omega arith) l.invariant.1 (c.reduce.ensures ∙ ap (λ (m : ℕ). get_or c.args.records.now (c.args.nv * l.j + c.args.i) 0 % m) (modulus-is c.args.w c.requires.0)))
 
 pub returns : goal.returns
-returns c = λ j h. c.loop-j.invariant.1.1 j (omega arith)
+returns c = λ j h. c.loop-j.invariant.1 j (omega arith)

@@ -1,70 +1,40 @@
--- `index_loops::inner::try_gates` meets its contract: the trials of the gates below k are done. Assumes nothing.
+-- `index_loops::inner::try_gates` meets its contract: the trials of the gates passed are done. Assumes nothing.
 use mathlib.Core.Path.{refl, sym, ap, ◌∙◌}
 use mathlib.Core.List.{List, ◌++◌}
-use Prim.Native.Nat.{◌+◌, ◌-◌}
+use Prim.Native.Nat.{ℕ, ◌+◌}
 use native.Mathlib.Omega.{arith}
-use Rattle.row_gates.specs.declared.Gate.{Gate}
-use Rattle.index_spec.specs.Index.{Trial, trials_of_gate}
-use Rattle.index_loops.proofs.LoopLaws.{ran-none, step_on, step-ended, renamed}
+use lib.ListN.{get_or}
+use Rattle.row_gates.specs.declared.Gate.TheVariants.{And}
+use Rattle.index_spec.specs.Index.{Trial, all_gates, trials_of_gate}
+use Rattle.index_loops.proofs.LoopLaws.{ran-none, step_on, step-ended, renamed, moved, ready_on, same_on}
 use Rattle.index_loops.proofs.TrialLaws.{gates_left, gates_up_to, gates-none, gates-more, gates-rest, gates-all}
 use Rattle.index_loops.proofs.inner.try_gates.Goals as goal
 
-pub loop-k-init : goal.loop-k-init
-loop-k-init c =
-    let a = c.args in (
-      omega arith,
-      record {
-        work-long = refl;
-        pairs-long = refl;
-        rows_long = refl;
-        ran = renamed (sym (gates-none a.job.count)) (ran-none a.job a.atoms.now a.pairs.now a.listed.now 0 a.work.now c.requires);
-      },
-    )
+pub loop-g-init : goal.loop-g-init
+loop-g-init c =
+    let a = c.args in
+    (renamed (sym (gates-none a.build.now.job.count)) (ran-none a.build.now.job a.build.now.atoms.now a.build.now.pairs.now a.build.now.listed.now 0 a.build.now.work.now c.requires), record { job = refl; work = refl; pairs = refl; listed = refl; atoms = refl })
+
+pub returns-then-t-clause-tried : goal.returns-then-t-clause-tried
+unfolding all_gates
+returns-then-t-clause-tried c =
+    let l = c.loop-g in
+    let a = c.args in
+    step-ended (gates_up_to a.build.now.job.count l.g-index) _ (gates_left a.build.now.job.count (l.g-index + 1)) l.invariant.0 (moved l.invariant.1 c.try_gate-t.new.build (λ (k : ℕ). trials_of_gate k (get_or all_gates l.g-index And)) c.try_gate-t.ensures.tried) c.if-t.true
+    (ap (λ (z : List Trial). z ++ gates_left a.build.now.job.count (l.g-index + 1)) (gates-more a.build.now.job.count l.g-index c.loop-g-test.true) ∙ gates-rest a.build.now.job.count (l.g-index + 1))
 
 pub try_gate-t-requires : goal.try_gate-t-requires
-try_gate-t-requires c = c.loop-k.invariant.1.ran.ready
+try_gate-t-requires c = ready_on c.loop-g.invariant.1 c.loop-g.invariant.0
 
-pub shape_of-work-then-t : goal.shape_of-work-then-t
-shape_of-work-then-t c = omega (arith, c.try_gate-t.auto.work, c.loop-k.invariant.1.work-long)
-
-pub shape_of-pairs-then-t : goal.shape_of-pairs-then-t
-shape_of-pairs-then-t c = omega (arith, c.try_gate-t.auto.pairs, c.loop-k.invariant.1.pairs-long)
-
-pub shape_of-listed-then-t : goal.shape_of-listed-then-t
-shape_of-listed-then-t c = omega (arith, c.try_gate-t.auto.listed, c.loop-k.invariant.1.rows_long)
-
-pub returns-then-t : goal.returns-then-t
-returns-then-t c =
-    let l = c.loop-k in
+pub loop-g-preserved : goal.loop-g-preserved
+unfolding all_gates
+loop-g-preserved c =
+    let l = c.loop-g in
     let a = c.args in
-    step-ended (gates_up_to a.job.count l.k) (trials_of_gate a.job.count c.gate_at-g.result) (gates_left a.job.count (l.k + 1)) l.invariant.1.ran c.try_gate-t.ensures c.if-t.true
-    (ap (λ (z : List Trial). z ++ gates_left a.job.count (l.k + 1)) (ap (λ (g : Gate). gates_up_to a.job.count l.k ++ trials_of_gate a.job.count g) c.gate_at-g.ensures ∙ gates-more a.job.count l.k c.loop-k-test.true) ∙ gates-rest a.job.count (l.k + 1))
+    (step_on (gates_up_to a.build.now.job.count l.g-index) _ l.invariant.0 (moved l.invariant.1 c.try_gate-t.new.build (λ (k : ℕ). trials_of_gate k (get_or all_gates l.g-index And)) c.try_gate-t.ensures.tried) c.if-t.false (gates-more a.build.now.job.count l.g-index c.loop-g-test.true), same_on l.invariant.1 c.try_gate-t.ensures.same)
 
-pub loop-k-preserved : goal.loop-k-preserved
-loop-k-preserved c =
-    let l = c.loop-k in
+pub returns-clause-tried : goal.returns-clause-tried
+returns-clause-tried c =
+    let l = c.loop-g in
     let a = c.args in
-    let inv = l.invariant.1 in (
-      omega (arith, c.loop-k-test.true),
-      record {
-        work-long = omega (arith, c.try_gate-t.auto.work, inv.work-long);
-        pairs-long = omega (arith, c.try_gate-t.auto.pairs, inv.pairs-long);
-        rows_long = omega (arith, c.try_gate-t.auto.listed, inv.rows_long);
-        ran = step_on (gates_up_to a.job.count l.k) (trials_of_gate a.job.count c.gate_at-g.result) inv.ran c.try_gate-t.ensures c.if-t.false (ap (λ (g : Gate). gates_up_to a.job.count l.k ++ trials_of_gate a.job.count g) c.gate_at-g.ensures ∙ gates-more a.job.count l.k c.loop-k-test.true);
-      },
-    )
-
-pub shape_of-work : goal.shape_of-work
-shape_of-work c = omega (arith, c.loop-k.invariant.1.work-long)
-
-pub shape_of-pairs : goal.shape_of-pairs
-shape_of-pairs c = omega (arith, c.loop-k.invariant.1.pairs-long)
-
-pub shape_of-listed : goal.shape_of-listed
-shape_of-listed c = omega (arith, c.loop-k.invariant.1.rows_long)
-
-pub returns : goal.returns
-returns c =
-    let l = c.loop-k in
-    let a = c.args in
-    renamed (gates-all a.job.count l.k (omega (arith, l.invariant.0, c.loop-k-test.false))) l.invariant.1.ran
+    renamed (gates-all a.build.now.job.count l.g-index (omega (arith, l.auto.g-index-end, c.loop-g-test.false))) l.invariant.0

@@ -11,7 +11,6 @@ use Rattle.index_maps.proofs.inner.bank_home.Goals as goal
 pub returns : goal.returns
 unfolding home_of
 returns c =
-    let homed : c.reduce.result ≡ home_of bank_bits (part_at 16 c.args.atoms.now c.args.i)
+    let e : c.reduce.result ≡ home_of bank_bits (part_at 16 c.args.atoms.now c.args.i)
     = c.reduce.ensures ∙ ap (λ (x : ℕ). x % 2 ^ bank_bits) (c.fingerprint.ensures ∙ ap fingerprint_of c.load_row-row.ensures) in
-    let e : c.reduce.result ≡ home_of bank_bits (part_at 16 c.args.atoms.now c.args.i) = homed in
     (e, subst (λ (k : ℕ). k < 2 ^ bank_bits) (sym e) (home-small bank_bits (part_at 16 c.args.atoms.now c.args.i)))

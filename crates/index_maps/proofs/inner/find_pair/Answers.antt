@@ -8,9 +8,7 @@ use Rattle.index_maps.specs.Area.{bank_area}
 use Rattle.index_maps.proofs.AreaLaws.{back_whole}
 use Rattle.index_maps.proofs.inner.find_pair.Goals as goal
 
-pub find_by-requires : goal.find_by-requires
-find_by-requires c =
-    let a = c.args in record {
-      searchable = subst (λ (z : List ℕ). Searchable z a.bits a.listed.now a.n) (sym (back_whole bank_area (length a.work.now) a.work.now refl)) c.requires.bank_area_in_bounds.1;
-      print_value = c.requires.print_value;
-    }
+pub find_by-requires-clause-searchable : goal.find_by-requires-clause-searchable
+find_by-requires-clause-searchable c =
+    let a = c.args in
+    subst (λ (z : List ℕ). Searchable z a.bits a.listed.now a.n) (sym (back_whole bank_area (length a.work.now) a.work.now refl)) c.requires.bank_area_in_bounds.1

@@ -8,5 +8,5 @@ use Rattle.index_maps.proofs.inner.in_bank.Goals as goal
 pub returns-in-At : goal.returns-in-At
 returns-in-At c = sym (hit-holds (lookup_at bank_bits c.in-At.is c.find_by-found.ensures))
 
-pub returns-in-Free : goal.returns-in-Free
-returns-in-Free c = sym (miss_holds (lookup_free c.in-Free.is c.find_by-found.ensures))
+pub returns-in_default : goal.returns-in_default
+returns-in_default c = sym (miss_holds (lookup_free c.in_default.is c.find_by-found.ensures))

@@ -1,11 +1,12 @@
--- `listing::inner::list_bank` meets its contract: what is printed is what the arrays hold. Assumes nothing.
+-- `listing::inner::list_bank` meets its contract: what the build leaves is the bank that is listed. Assumes nothing.
+use native.Mathlib.Omega.{arith}
+use Rattle.bank_unary.proofs.Phasing.{holding}
+use Rattle.listing.specs.Steps.{atoms_for}
 use Rattle.listing.proofs.inner.list_bank.Goals as goal
 
-pub print_listing-requires : goal.print_listing-requires
-print_listing-requires c = (c.build_both-built.ensures.shown, c.requires.1)
-
-pub returns : goal.returns
-returns c = record {
-  wrote = c.print_listing.ensures.is _ _ c.build_both-built.ensures.holding;
-  upper_bound = c.print_listing.ensures.fits;
+pub list_built-requires : goal.list_built-requires
+list_built-requires c = record {
+  demand = c.requires;
+  holding = holding _ _ _ _ (atoms_for c.args.demand) c.build-n.ensures.phase;
+  area = omega (arith, c.build-n.auto.work);
 }

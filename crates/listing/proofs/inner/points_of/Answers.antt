@@ -1,26 +1,21 @@
 -- `listing::inner::points_of` meets its contract: the points stored are the first of all. Assumes nothing.
-use Prim.Native.Nat.{◌-◌}
 use native.Mathlib.Omega.{arith}
 use borrow.Author.Rules.{rules}
-use lib.ListN.{length-set}
 use Rattle.listing.proofs.Numbers.{none_stored, base_more, points-more, points-are}
 use Rattle.listing.proofs.inner.points_of.Goals as goal
 
 pub loop-k-init : goal.loop-k-init
-loop-k-init c = (omega arith, (search rules, (omega arith, (omega arith, none_stored _))))
+loop-k-init c = (search rules, (omega arith, (omega arith, none_stored _)))
 
 pub loop-k-preserved : goal.loop-k-preserved
 loop-k-preserved c =
     let a = c.args in (
-      omega arith,
+      search rules,
       (
-        simp length-set (omega arith),
+        omega arith,
         (
-          omega arith,
-          (
-            base_more a.nv c.loop-k.base c.loop-k.k c.loop-k.invariant.1.1.1.0,
-            points-more a.numbers a.nv c.loop-k.base c.loop-k.k c.loop-k.points _ (omega arith) c.requires.0 c.loop-k.invariant.1.1.1.0 c.point_of-p.ensures c.loop-k.invariant.1.1.1.1,
-          ),
+          base_more a.nv c.loop-k.base c.loop-k.k c.loop-k.invariant.1.1.0,
+          points-more a.numbers a.nv c.loop-k.base c.loop-k.k c.loop-k.points _ (search rules) c.requires.0 c.loop-k.invariant.1.1.0 c.point_of-p.ensures c.loop-k.invariant.1.1.1,
         ),
       ),
     )
@@ -28,4 +23,4 @@ loop-k-preserved c =
 pub returns : goal.returns
 returns c =
     let a = c.args in
-    points-are a.numbers c.loop-k.points c.loop-k.k (omega arith) c.loop-k.invariant.1.0 c.loop-k.invariant.1.1.1.1
+    points-are a.numbers c.loop-k.points c.loop-k.k (search rules) c.loop-k.invariant.0 c.loop-k.invariant.1.1.1

@@ -1,19 +1,12 @@
 -- `load_text::inner::write_lines` meets its contract: line after line. Assumes nothing.
-use mathlib.Core.Path.{refl}
-use Rattle.load_text.proofs.Lines.{going_start, going_next, going_done, going_full}
+use Rattle.load_text.proofs.Lines.{going_next, going_done, going_full}
 use native.Mathlib.Omega.{arith}
 use borrow.Author.Rules.{rules}
 use Rattle.load_text.proofs.inner.write_lines.Goals as goal
 
-pub loop-p-init : goal.loop-p-init
-loop-p-init c = let a = c.args in (omega arith, (refl, refl), going_start a.load a.out.now a.ops.now a.operands.now c.requires.1)
-
 pub returns-then-left-eq0 : goal.returns-then-left-eq0
 returns-then-left-eq0 c = let l = c.loop-p in let a = c.args in
     going_done a.load a.out.now l.out l.ops l.operands l.state l.left l.p l.invariant.2 c.lines_part.result c.lines_part.ensures c.if-left-eq0.true
-
-pub write_line-x-requires : goal.write_line-x-requires
-write_line-x-requires c = let l = c.loop-p in (omega (arith, l.invariant.0, l.invariant.2.long), l.invariant.2.ready)
 
 pub loop-p-preserved : goal.loop-p-preserved
 loop-p-preserved c = let l = c.loop-p in let a = c.args in (

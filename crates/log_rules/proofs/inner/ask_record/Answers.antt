@@ -6,12 +6,14 @@ use Rattle.rule_run.specs.Steps.{record_answer}
 use Rattle.log_rules.proofs.Asking.{either_by}
 use Rattle.log_rules.proofs.inner.ask_record.Goals as goal
 
-pub returns-then-token_count-gt-MAX_TOKENS : goal.returns-then-token_count-gt-MAX_TOKENS
-returns-then-token_count-gt-MAX_TOKENS c =
+pub returns-then-rule-gt-MAX_TOKENS : goal.returns-then-rule-gt-MAX_TOKENS
+returns-then-rule-gt-MAX_TOKENS c =
     let a = c.args in
-    sym (ap record_answer (ap (either_by a.nv a.w a.token_count a.ops.now a.operands.now a.m a.window a.past 1 a.words.now (0 ∷ [])) (lt-ltb 64 a.token_count c.if-token_count-gt-MAX_TOKENS.true)))
+    let r = a.rule.now in
+    sym (ap record_answer (ap (either_by a.nv a.w r.token_count r.ops.now r.operands.now r.m r.window a.past 1 a.words.now (0 ∷ [])) (lt-ltb 64 r.token_count c.if-rule-gt-MAX_TOKENS.true)))
 
 pub returns : goal.returns
 returns c =
     let a = c.args in
-    c.run_record.ensures ∙ sym (ap record_answer (ap (either_by a.nv a.w a.token_count a.ops.now a.operands.now a.m a.window a.past 1 a.words.now (0 ∷ [])) (le-ltb 64 a.token_count c.if-token_count-gt-MAX_TOKENS.false)))
+    let r = a.rule.now in
+    c.run_record.ensures ∙ sym (ap record_answer (ap (either_by a.nv a.w r.token_count r.ops.now r.operands.now r.m r.window a.past 1 a.words.now (0 ∷ [])) (le-ltb 64 r.token_count c.if-rule-gt-MAX_TOKENS.false)))

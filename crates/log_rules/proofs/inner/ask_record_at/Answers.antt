@@ -3,19 +3,29 @@ use mathlib.Core.Path.{refl, sym, ap, ◌∙◌}
 use mathlib.Core.List.{[], ◌∷◌}
 use native.Mathlib.Omega.{arith}
 use lib.Dec.{eqb}
-use Rattle.rule_run.specs.declared.inner.RecordAnswer.{RecordAnswer}
-use Rattle.log_rules.proofs.Asking.{at-number, at-state, at-answer}
+use Rattle.rule_run.specs.Steps.{RecordReply}
+use Rattle.log_rules.specs.Lent.{rule_of}
+use Rattle.log_rules.proofs.Asking.{record-number, at-number, at-state, at-answer}
 use Rattle.log_rules.proofs.inner.ask_record_at.Goals as goal
 
-pub overflow_cast-token_counts : goal.overflow_cast-token_counts
-overflow_cast-token_counts c = omega (arith, c.type_inv.token_counts c.args.i)
+pub rule-requires : goal.rule-requires
+rule-requires c = record {
+  ms = c.requires.ms-there;
+  windows = c.requires.windows-there;
+  counts = c.requires.counts-there;
+  ops = c.requires.ops-there;
+  operands = c.requires.operands-there;
+}
 
 pub returns : goal.returns
 returns c =
     let a = c.args in
+    let r = a.rules.now in
+    let q = rule_of c.rule.result in
     let e = c.ask_record.ensures in
-    let number = ap (λ (x : RecordAnswer). x.refusal) e ∙ at-number a.nv a.w a.i a.ms.now a.windows.now a.token_counts.now a.ops.now a.operands.now a.past 1 a.words.now (0 ∷ []) c.requires (omega arith) _ refl in record {
-      refusal_value = number;
-      past_value = λ z. ap (λ (x : RecordAnswer). x.state.past) e ∙ at-state a.nv a.w a.i a.ms.now a.windows.now a.token_counts.now a.ops.now a.operands.now a.past 1 a.words.now (0 ∷ []) c.requires (omega arith) c.ranges.past.fits (sym number ∙ z) _ refl;
-      answer_value = λ z. ap (λ (x : RecordAnswer). eqb x.answer 1) e ∙ at-answer a.nv a.w a.i a.ms.now a.windows.now a.token_counts.now a.ops.now a.operands.now a.past 1 a.words.now (0 ∷ []) c.requires (omega arith) c.ranges.past.fits (sym number ∙ z) _ refl 0 (omega arith);
+    let same = record-number (record { past = a.past }) c.ask_record.result in
+    let number = ap (λ (x : RecordReply). x.refusal) e ∙ at-number a.nv a.w a.i r.ms.now r.windows.now r.token_counts.now r.ops.now r.operands.now a.past 1 a.words.now (0 ∷ []) c.requires (omega arith) q c.rule.ensures _ refl in record {
+      refusal_value = same ∙ number;
+      past_value = λ z. ap (λ (x : RecordReply). x.state.past) e ∙ at-state a.nv a.w a.i r.ms.now r.windows.now r.token_counts.now r.ops.now r.operands.now a.past 1 a.words.now (0 ∷ []) c.requires (omega arith) q c.rule.ensures c.ranges.past.fits (sym number ∙ sym same ∙ z) _ refl;
+      answer_value = λ z. ap (λ (x : RecordReply). eqb x.answer 1) e ∙ at-answer a.nv a.w a.i r.ms.now r.windows.now r.token_counts.now r.ops.now r.operands.now a.past 1 a.words.now (0 ∷ []) c.requires (omega arith) q c.rule.ensures c.ranges.past.fits (sym number ∙ sym same ∙ z) _ refl 0 (omega arith);
     }

@@ -1,5 +1,5 @@
 -- `log_rules::inner::offer` meets its contract: place after place. Assumes nothing.
-use Prim.Native.Nat.{ℕ, ◌-◌}
+use Prim.Native.Nat.{ℕ}
 use mathlib.Core.Bool.{cond}
 use lib.Dec.{eqb}
 use lib.ListN.{get_or}
@@ -9,12 +9,12 @@ use borrow.Author.Rules.{rules}
 use Rattle.log_rules.proofs.inner.offer.Goals as goal
 
 pub loop-k-init : goal.loop-k-init
-loop-k-init c = (search rules, mapped_start _ _)
+loop-k-init c = mapped_start _ _
 
 pub loop-k-preserved : goal.loop-k-preserved
 loop-k-preserved c = let a = c.args in
     let l = c.loop-k in
-    (search rules, mapped_more (λ (t x : ℕ). cond (eqb (get_or a.answers.now t 0) 1) (lesser x a.rank) x) a.fired.now l.fired l.k c.offered.result (search rules) c.offered.ensures l.invariant.1)
+    mapped_more (λ (t x : ℕ). cond (eqb (get_or a.answers.now t 0) 1) (lesser x a.rank) x) a.fired.now l.fired l.k c.offered.result (search rules) c.offered.ensures l.invariant
 
 pub returns : goal.returns
-returns c = λ t l. c.loop-k.invariant.1.done t (search rules)
+returns c = λ t l. c.loop-k.invariant.done t (search rules)

@@ -1,5 +1,5 @@
 -- `log_rules::inner::offer` meets its contract: place after place. Assumes nothing.
-use Prim.Native.Nat.{ℕ, ◌-◌, ◌≤◌}
+use Prim.Native.Nat.{ℕ}
 use mathlib.Core.Bool.{cond}
 use lib.Dec.{eqb}
 use lib.ListN.{get_or}
@@ -8,7 +8,4 @@ use Rattle.log_rules.proofs.Feeding.{Mapped}
 use Rattle.log_rules.proofs.inner.offer.Given as goal
 
 abbrev pub invariant-loop-k : goal.invariant-loop-k
-invariant-loop-k l = (l.k ≤ l.n) × Mapped (λ (t x : ℕ). cond (eqb (get_or l.answers t 0) 1) (lesser x l.rank) x) l.initial.fired l.fired l.k
-
-abbrev pub decreases-loop-k : goal.decreases-loop-k
-decreases-loop-k l = l.n - l.k
+invariant-loop-k l = Mapped (λ (t x : ℕ). cond (eqb (get_or l.answers t 0) 1) (lesser x l.rank) x) l.initial.fired l.fired l.k

@@ -2,14 +2,14 @@
 use mathlib.Core.Path.{◌≡◌}
 use Prim.Native.Nat.{◌-◌, ◌≤◌, ◌<◌}
 use lib.ListN.{length}
-use Rattle.log_rules.specs.Rules.{rules_in}
+use Rattle.log_rules.specs.Lent.{rules_of}
 use Rattle.log_rules.specs.Steps.{formulas_refusal}
 use Rattle.log_run.specs.Step.{log_after}
 use Rattle.log_run.specs.Steps.{open_log}
 use Rattle.log_run.proofs.inner.run_parts.Given as goal
 
 abbrev pub invariant-loop-at : goal.invariant-loop-at
-invariant-loop-at l = (l.at ≤ l.n) × ((l.words ≡ l.nv) × ((length l.seen ≡ length l.initial.seen) × ((0 < l.at → formulas_refusal l.nv (rules_in l.count l.ranks l.ms l.windows l.token_counts l.ops l.operands) l.count ≡ 0) × (open_log l.seen l.now ≡ log_after l.nv l.w (rules_in l.count l.ranks l.ms l.windows l.token_counts l.ops l.operands) l.records (open_log l.initial.seen l.initial.now) l.at))))
+invariant-loop-at l = (l.at ≤ l.records.n) × ((length l.seen ≡ length l.initial.seen) × ((0 < l.at → formulas_refusal l.records.nv (rules_of l.rules) l.rules.count ≡ 0) × (open_log l.seen l.now ≡ log_after l.records.nv l.records.w (rules_of l.rules) l.records.words.now (open_log l.initial.seen l.initial.now) l.at)))
 
 abbrev pub decreases-loop-at : goal.decreases-loop-at
-decreases-loop-at l = l.n - l.at
+decreases-loop-at l = l.records.n - l.at

@@ -6,4 +6,4 @@ use Rattle.row_lent.proofs.inner.load_row.Goals as goal
 pub returns : goal.returns
 returns c =
     let s = c.args in
-    c.copy_words.ensures ∙ part_is 16 s.rows.now s.slot
+    c.copy_from_slice.ensures.after ∙ part_is 16 s.rows.now s.slot

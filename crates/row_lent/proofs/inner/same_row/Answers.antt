@@ -1,32 +1,13 @@
--- `row_lent::inner::same_row` meets its contract: the places passed hold the words of the row. Assumes nothing.
-use mathlib.Core.Path.{◌≡◌, sym, ap, ◌∙◌}
+-- `row_lent::inner::same_row` meets its contract: the slices are equal where the rows are. Assumes nothing.
+use mathlib.Core.Path.{ap₂, ◌∙◌}
 use mathlib.Core.List.{List}
-use Prim.Native.Nat.{ℕ, ◌-◌}
-use native.Mathlib.Omega.{arith}
-use borrow.Author.Count.{below_more}
-use borrow.Author.Rules.{rules}
-use lib.ListN.{length, get_or}
-use lib.Seq.{ext_get_or}
-use Rattle.arrays.specs.Parts.{part_at}
-use Rattle.arrays.proofs.Parts.{length-part, get_d_part}
-use Rattle.row_gates.proofs.Rows.{same-row_of, same-row-not}
+use Prim.Native.Nat.{ℕ}
+use lib.Dec.{eqb}
+use lib.Pointwise.{pointwise}
+use Rattle.arrays.proofs.Parts.{part_is}
+use Rattle.row_gates.proofs.Rows.{pointwise-same}
 use Rattle.row_lent.proofs.inner.same_row.Goals as goal
-
-pub loop-word-init : goal.loop-word-init
-loop-word-init c = (search rules, λ k h. absurd (omega arith))
-
-pub returns-then-rows-base : goal.returns-then-rows-base
-returns-then-rows-base c =
-    let at = get_d_part 16 c.args.rows.now c.args.slot c.loop-word.word (omega arith) in
-    sym (same-row-not (part_at 16 c.args.rows.now c.args.slot) c.args.row (λ e. c.if-rows-base.true (sym at ∙ ap (λ (l : List ℕ). get_or l c.loop-word.word 0) e)))
-
-pub loop-word-preserved : goal.loop-word-preserved
-loop-word-preserved c =
-    (omega arith, below_more _ c.loop-word.word c.loop-word.invariant.1 c.if-rows-base.false)
 
 pub returns : goal.returns
 returns c =
-    let long = length-part 16 c.args.rows.now c.args.slot (omega arith) in
-    let wide : length c.args.row ≡ 16 = search rules in
-    sym (same-row_of (ext_get_or 0 (part_at 16 c.args.rows.now c.args.slot) c.args.row (omega arith)
-    (λ k h. get_d_part 16 c.args.rows.now c.args.slot k (omega arith) ∙ c.loop-word.invariant.1 k (omega arith))))
+    c.eq.ensures ∙ ap₂ (λ (x y : List ℕ). pointwise eqb x y) (part_is 16 c.args.rows.now c.args.slot) c.as_slice.ensures ∙ pointwise-same _ _

@@ -1,25 +1,17 @@
--- `row_map::inner::clear` meets its contract: the heads passed are 0, and the rest is as it was. Assumes nothing.
-use mathlib.Core.Path.{◌≡◌, refl}
-use Prim.Native.Nat.{◌-◌, ◌^◌, ◌<◌}
+-- `row_map::inner::clear` meets its contract: the heads are 0, and the rest is as it was. Assumes nothing.
+use mathlib.Core.Path.{◌≡◌, ap, ap₂, ◌∙◌}
+use mathlib.Core.List.{List, ◌++◌}
+use Prim.Native.Nat.{ℕ, ◌^◌}
 use native.Mathlib.Omega.{arith}
-use borrow.Author.Fill.{fill_none, fill_more}
-use lib.ListN.{length, length-set}
+use lib.ListN.{length, take, drop, replicate}
+use Rattle.std.proofs.Common.{length-take-le}
 use Rattle.row_map.specs.Map.{cleared}
 use Rattle.row_map.proofs.inner.clear.Goals as goal
-
-pub loop-i-init : goal.loop-i-init
-loop-i-init c = (omega arith, (refl, fill_none c.args.work.now 0))
-
-pub loop-i-preserved : goal.loop-i-preserved
-loop-i-preserved c =
-    let old = c.args.work.now in
-    let i = c.loop-i.i in
-    let room : i < length old = omega arith in
-    (omega arith, (simp length-set (omega arith), rw c.loop-i.invariant.1.1 (fill_more i 0 old room)))
 
 pub returns : goal.returns
 unfolding cleared
 returns c =
-    let s = c.args in
-    let done : c.loop-i.i ≡ 2 ^ s.bits = omega arith in
-    rw done at c.loop-i.invariant.1.1
+    let a = c.args in
+    let long : length (take c.heads.result a.work.now) ≡ 2 ^ a.bits
+    = length-take-le c.heads.result a.work.now (omega (arith, c.heads.ensures, c.requires.1)) ∙ c.heads.ensures in
+    ap₂ (λ (x y : List ℕ). x ++ y) (c.fill.ensures.after (λ y e. e) ∙ ap (λ (n : ℕ). replicate n 0) long) (ap (λ (n : ℕ). drop n a.work.now) c.heads.ensures)

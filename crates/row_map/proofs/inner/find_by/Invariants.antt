@@ -1,6 +1,6 @@
 -- `row_map::inner::find_by` meets its contract: no slot from the entry on has the row, and links fall, so that the walk ends. Assumes nothing.
 use mathlib.Core.Path.{◌≡◌}
-use Prim.Native.Nat.{ℕ, ◌-◌}
+use Prim.Native.Nat.{ℕ}
 use Rattle.arrays.specs.Parts.{part_at}
 use Rattle.row_map.specs.Map.{home_of, homes_of}
 use Rattle.row_map.proofs.Walks.{Walk}

@@ -1,6 +1,7 @@
 -- `rule_run::inner::feed` meets its contract: the next answer, and the next state. Assumes nothing.
 use Rattle.std.proofs.Common.{ℕ, ◌+◌, ◌-◌, ◌%◌, ◌^◌, ◌≤◌, cond, leb, sym, ap, ◌∙◌, subst}
-use Rattle.rule_run.specs.Window.{sum_below, bit_of}
+use Rattle.rule_run.specs.Window.{sum_below}
+use Rattle.arith.specs.Word.{bit_of}
 use Rattle.rule_run.proofs.Counting.{mark-low}
 use Rattle.rule_run.proofs.Feeding.{fed_more}
 use Rattle.rule_run.proofs.inner.feed.Goals as goal

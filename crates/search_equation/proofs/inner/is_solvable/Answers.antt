@@ -1,9 +1,8 @@
 -- `search_equation::inner::is_solvable` meets its contract: both counts are the definition's. Assumes nothing.
-use mathlib.Core.Path.{ap₂}
-use lib.Dec.{leb}
+use mathlib.Core.Path.{refl}
 use Rattle.search_equation.specs.Equation.{solvable}
 use Rattle.search_equation.proofs.inner.is_solvable.Goals as goal
 
 pub returns : goal.returns
 unfolding solvable
-returns c = ap₂ leb c.trailing_zeros.ensures c.trailing_zeros-2.ensures
+returns c = refl

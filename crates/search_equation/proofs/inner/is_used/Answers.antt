@@ -1,11 +1,10 @@
 -- `search_equation::inner::is_used` meets its contract: its branches are the rule's cases. Assumes nothing.
 use mathlib.Core.Path.{sym, ap, ◌∙◌}
 use mathlib.Core.Bool.{not}
-use Prim.Native.Nat.{ℕ, ◌%◌, ◌≤◌, ◌<◌}
+use Prim.Native.Nat.{ℕ, ◌%◌, ◌≤◌}
 use native.Mathlib.Omega.{arith}
 use lib.Count.{trailing_le}
 use lib.Dec.{eqb}
-use Rattle.arith.specs.Word.{modulus}
 use Rattle.arith.proofs.Remainders.{modulus-is}
 use Rattle.search_equation.specs.Equation.{zeros_of}
 use Rattle.search_equation.proofs.Used.{used_zero, used-many, used-few}
@@ -18,13 +17,11 @@ pub returns-then-z-gt-ZEROS_MAX : goal.returns-then-z-gt-ZEROS_MAX
 returns-then-z-gt-ZEROS_MAX c =
     let s = c.args in
     let z = zeros_of s.p in
-    let is = c.trailing_zeros-z.ensures in
-    let many : 8 < z = omega (arith, is, c.if-z-gt-ZEROS_MAX.true) in
-    let left = c.reduce.ensures ∙ ap (λ (n : ℕ). s.t % modulus n) is ∙ ap (λ (m : ℕ). s.t % m) (modulus-is z (trailing_le 64 s.p)) in
-    ap (λ (x : ℕ). not (eqb x 0)) left ∙ sym (used-many s.p s.t c.if-p-eq0.false many)
+    let left = c.reduce.ensures ∙ ap (λ (m : ℕ). s.t % m) (modulus-is z (trailing_le 64 s.p)) in
+    ap (λ (x : ℕ). not (eqb x 0)) left ∙ sym (used-many s.p s.t c.if-p-eq0.false c.if-z-gt-ZEROS_MAX.true)
 
 pub returns : goal.returns
 returns c =
     let s = c.args in
-    let few : zeros_of s.p ≤ 8 = omega (arith, c.trailing_zeros-z.ensures, c.if-z-gt-ZEROS_MAX.false) in
+    let few : zeros_of s.p ≤ 8 = omega (arith, c.if-z-gt-ZEROS_MAX.false) in
     sym (used-few s.p s.t c.if-p-eq0.false few)

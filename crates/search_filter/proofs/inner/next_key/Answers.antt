@@ -6,11 +6,6 @@ use Rattle.arith.proofs.Remainders.{shl_one}
 use Rattle.search_filter.proofs.Running.{step_small, next-below, key_next}
 use Rattle.search_filter.proofs.inner.next_key.Goals as goal
 
-pub overflow_shl-step : goal.overflow_shl-step
-overflow_shl-step c =
-    let a = c.args in
-    omega (arith, c.requires.0.few, step_small a.class c.requires.0 a.key a.left c.requires.1 c.requires.2)
-
 pub overflow_add-result : goal.overflow_add-result
 overflow_add-result c =
     let a = c.args in

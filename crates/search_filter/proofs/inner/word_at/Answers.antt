@@ -5,21 +5,6 @@ use native.Mathlib.Omega.{arith}
 use Rattle.search_filter.proofs.Words.{slot-below}
 use Rattle.search_filter.proofs.inner.word_at.Goals as goal
 
-pub overflow_cast-s : goal.overflow_cast-s
-overflow_cast-s c = omega (arith, c.type_inv.order c.args.k)
-
-pub overflow_mul-result : goal.overflow_mul-result
-overflow_mul-result c =
-    let below : get_or c.args.order.now c.args.k 0 < c.args.n
-    = let a = c.args in slot-below a.n a.rows.now a.order.now c.requires.0 a.k c.requires.1 in
-    omega (arith, below, c.requires.0.most)
-
-pub offset_bounds-rows-s : goal.offset_bounds-rows-s
-offset_bounds-rows-s c =
-    let below : get_or c.args.order.now c.args.k 0 < c.args.n
-    = let a = c.args in slot-below a.n a.rows.now a.order.now c.requires.0 a.k c.requires.1 in
-    omega (arith, below, c.requires.0.most)
-
 pub bounds-rows-s : goal.bounds-rows-s
 bounds-rows-s c =
     let below : get_or c.args.order.now c.args.k 0 < c.args.n

@@ -1,29 +1,11 @@
 -- `search_product_pairs::inner::next_slot` meets its contract: nothing fits up to slot s. Where the second products differ none fits. Assumes nothing.
 use mathlib.Core.Path.{◌≡◌, sym, ◌∙◌}
 use mathlib.Core.Bool.{false}
-use Prim.Native.Nat.{◌-◌}
 use Rattle.search_product_trial.specs.Steps.{fits_at}
 use Rattle.search_product_trial.proofs.Trials.{fits_not}
 use Rattle.search_product_trial.proofs.Firsts.{skip_more}
 use native.Mathlib.Omega.{arith}
 use Rattle.search_product_pairs.proofs.inner.next_slot.Goals as goal
-
-pub bounds-target-1 : goal.bounds-target-1
-bounds-target-1 c =
-    omega (arith, c.requires.3.long)
-
-pub loop-s-init : goal.loop-s-init
-loop-s-init c =
-    (omega arith, c.requires.4, λ k l h. absurd (omega arith))
-
-pub fits-requires : goal.fits-requires
-fits-requires c =
-    (c.requires.0, omega (arith, c.requires.2, c.loop-s-test.true), c.requires.3)
-
-pub returns-then-fits : goal.returns-then-fits
-returns-then-fits c =
-    let l = c.loop-s in
-    record { from = l.invariant.0; to = l.invariant.1; skips = l.invariant.2; stops = λ _. sym c.fits.ensures ∙ c.if-fits.true }
 
 pub loop-s-preserved : goal.loop-s-preserved
 loop-s-preserved c =
@@ -34,9 +16,4 @@ loop-s-preserved c =
       | goal.then-mod_mul-t+else-fits w ↦ sym w.fits.ensures ∙ w.if-fits.false
       | goal.else-mod_mul-t w ↦ fits_not a.w a.target.now a.atoms.now a.listed.now a.a l.s c.requires.3 1 c.mod_mul.result (omega arith) c.mod_mul.ensures w.if-mod_mul-t.false
     ] in
-    (omega (arith, l.invariant.0), omega (arith, c.loop-s-test.true), skip_more test a.from l.s l.invariant.2 miss)
-
-pub returns : goal.returns
-returns c =
-    let l = c.loop-s in
-    record { from = l.invariant.0; to = l.invariant.1; skips = l.invariant.2; stops = λ h. absurd (omega (arith, h, c.loop-s-test.false)) }
+    skip_more test a.from l.s l.invariant miss

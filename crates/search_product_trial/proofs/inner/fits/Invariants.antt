@@ -1,12 +1,9 @@
 -- `search_product_trial::inner::fits` meets its contract: the products of the words passed are the target's words. Assumes nothing.
 use mathlib.Core.Path.{◌≡◌}
-use Prim.Native.Nat.{ℕ, ◌-◌, ◌≤◌, ◌<◌}
+use Prim.Native.Nat.{ℕ, ◌<◌}
 use lib.ListN.{get_or}
 use Rattle.search_product_trial.proofs.Trials.{lane}
 use Rattle.search_product_trial.proofs.inner.fits.Given as goal
 
 abbrev pub invariant-loop-j : goal.invariant-loop-j
-invariant-loop-j l = (l.j ≤ 16) × ((k : ℕ) → k < l.j → lane l.w l.xs l.a l.ys l.b k ≡ get_or l.target k 0)
-
-abbrev pub decreases-loop-j : goal.decreases-loop-j
-decreases-loop-j l = 16 - l.j
+invariant-loop-j l = (k : ℕ) → k < l.j → lane l.w l.xs l.a l.ys l.b k ≡ get_or l.target k 0

@@ -9,26 +9,11 @@ use Rattle.search_residual.proofs.inner.search_rows.Goals as goal
 
 pub fill-requires : goal.fill-requires
 fill-requires c =
-    let asked : Asked c.args.w c.args.count c.args.atoms.now c.args.target
+    let asked : Asked c.args.search.now.w c.args.search.now.count c.args.search.now.atoms.now c.args.search.now.target
     = record { width = c.requires.width; few = c.requires.few; fit = c.requires.atoms-fit; long = c.requires.long } in
     (asked, record { long = refl; chained = chained-none _ _ 12 (λ h l. get_or-replicate 5054 h 0 0 (omega arith)) })
-
-pub first_of-bank-requires : goal.first_of-bank-requires
-first_of-bank-requires c =
-    let asked : Asked c.args.w c.args.count c.args.atoms.now c.args.target
-    = record { width = c.requires.width; few = c.requires.few; fit = c.requires.atoms-fit; long = c.requires.long } in
-    (asked, c.fill.ensures, c.requires.atoms-fit, omega (arith, c.requires.few), omega arith)
-
-pub first_of-index-requires : goal.first_of-index-requires
-first_of-index-requires c =
-    let asked : Asked c.args.w c.args.count c.args.atoms.now c.args.target
-    = record { width = c.requires.width; few = c.requires.few; fit = c.requires.atoms-fit; long = c.requires.long } in
-    (asked, c.fill.ensures, c.requires.rows_fit, c.requires.most, c.first_of-bank.ensures.most)
-
-pub first_told-requires : goal.first_told-requires
-first_told-requires c = c.requires.few
 
 pub returns : goal.returns
 returns c =
     c.first_told.ensures
-    ∙ told-is-tried c.args.w c.args.count c.args.atoms.now c.args.n c.args.listed.now c.args.target c.first_of-bank.result c.first_of-index.result c.first_of-bank.ensures c.first_of-index.ensures
+    ∙ told-is-tried c.args.search.now.w c.args.search.now.count c.args.search.now.atoms.now c.args.n c.args.listed.now c.args.search.now.target c.first_of-bank.result c.first_of-index.result c.first_of-bank.ensures c.first_of-index.ensures

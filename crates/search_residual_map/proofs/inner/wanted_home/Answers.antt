@@ -1,5 +1,5 @@
 -- `search_residual_map::inner::wanted_home` meets its contract: gate and atom are those of the number. Assumes nothing.
-use Rattle.std.proofs.Common.{◌≡◌, ℕ, List, length, ap, ◌∙◌, ap₂, arith, rules}
+use Rattle.std.proofs.Common.{◌≡◌, ℕ, List, length, ap, ◌∙◌, ap₂, rules}
 use Rattle.arrays.proofs.Parts.{part_whole}
 use Rattle.row_gates.specs.Gates.{residual_row}
 use Rattle.row_gates.specs.declared.Gate.{Gate}
@@ -7,15 +7,6 @@ use Rattle.search_residual_trial.specs.Trying.{completing}
 use Rattle.search_residual_trial.specs.Steps.{wanted}
 use Rattle.search_residual_map.specs.Map.{home_of}
 use Rattle.search_residual_map.proofs.inner.wanted_home.Goals as goal
-
-pub atom_at-requires : goal.atom_at-requires
-atom_at-requires c = (c.requires.0.few, c.requires.1)
-
-pub load_row-atom-requires : goal.load_row-atom-requires
-load_row-atom-requires c = omega (arith, c.requires.0.fit, c.atom_at.ensures.1)
-
-pub residual_row-row-requires : goal.residual_row-row-requires
-residual_row-row-requires c = c.requires.0.width
 
 pub returns : goal.returns
 unfolding wanted

@@ -5,10 +5,12 @@ use Rattle.text_print.proofs.Listings.{listing-is}
 use Rattle.text_print.proofs.inner.print_listing.Goals as goal
 
 pub returns : goal.returns
-returns c = let a = c.args in
+returns c =
+    let a = c.args.atoms.now in
+    let p = c.args.pairs.now in
     record {
-      fits = omega (arith, c.requires.0.few, c.requires.0.some, c.print_head-head.ensures.upper_bound, c.print_atoms-atoms.ensures.upper_bound, c.print_lines.ensures.upper_bound);
+      fits = omega (arith, c.requires.0.few, c.requires.0.some, c.print_head-head.ensures.upper_bound, c.print_atoms-after.ensures.upper_bound, c.print_lines.ensures.upper_bound);
       is = λ bank index h.
-          reads (listing-is a.lengths.now a.ops.now a.operands.now a.costs.now a.n a.pairs.now a.m a.cut bank index c.requires.0.short h)
-          (then c.print_head-head.ensures.wrote (then c.print_atoms-atoms.ensures.wrote c.print_lines.ensures.wrote));
+          reads (listing-is a.lengths.now a.ops.now a.operands.now a.costs.now a.n p.numbers.now p.m p.cut bank index c.requires.0.short h)
+          (then c.print_head-head.ensures.wrote (then c.print_atoms-after.ensures.wrote c.print_lines.ensures.wrote));
     }

@@ -1,7 +1,7 @@
 -- `simjaldek_abi::inner::replies::of_points` meets its contract: the points copied and those still to come are the sixteen. Assumes nothing.
 use mathlib.Core.Path.{◌≡◌, refl, sym, ap, ◌∙◌}
 use mathlib.Core.List.{List, ◌++◌, map, append-nil}
-use Prim.Native.Nat.{ℕ, ◌-◌, ◌≤◌}
+use Prim.Native.Nat.{ℕ, ◌≤◌}
 use lib.ListN.{length, take, drop, length-set, drop_of_length-le}
 use lib.Seq.{take_all}
 use Rattle.probe_points.specs.declared.Point.{Point}
@@ -12,13 +12,13 @@ use native.Mathlib.Omega.{arith}
 use Rattle.simjaldek_abi.proofs.inner.replies.of_points.Goals as goal
 
 pub loop-k-init : goal.loop-k-init
-loop-k-init c = (omega arith, (refl, refl))
+loop-k-init c = (refl, refl)
 
 pub loop-k-preserved : goal.loop-k-preserved
 loop-k-preserved c =
     let l = c.loop-k in
     let long : length c.args.made ≡ 16 = search rules in
-    (omega arith, (length-set l.points l.k _ ∙ l.invariant.1.0, words_more c.args.made l.k l.points _ _ (omega arith) l.invariant.1.0 long refl ∙ l.invariant.1.1))
+    (length-set l.points l.k _ ∙ l.invariant.0, words_more c.args.made l.k l.points _ _ (omega arith) l.invariant.0 long refl ∙ l.invariant.1)
 
 pub returns : goal.returns
 returns c =
@@ -30,4 +30,4 @@ returns c =
     ∙ sym (append-nil (take 16 l.points))
     ∙ ap (λ (x : List Point). take 16 l.points ++ map point_words x) (sym (drop_of_length-le c.args.made end))
     ∙ ap (λ (k : ℕ). take k l.points ++ map point_words (drop k c.args.made)) (sym z)
-    ∙ l.invariant.1.1
+    ∙ l.invariant.1

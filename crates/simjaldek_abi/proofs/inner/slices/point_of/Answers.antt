@@ -12,4 +12,4 @@ point l = record { words = l }
 pub returns : goal.returns
 returns c =
     let s = c.args in
-    ap point (c.copy_words.ensures ∙ part_is 6 s.words.now s.k)
+    ap point (c.copy_from_slice.ensures.after ∙ part_is 6 s.words.now s.k)

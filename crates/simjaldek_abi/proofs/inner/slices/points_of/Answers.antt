@@ -10,15 +10,13 @@ use native.Mathlib.Omega.{arith}
 use Rattle.simjaldek_abi.proofs.inner.slices.points_of.Goals as goal
 
 pub loop-k-init : goal.loop-k-init
-loop-k-init c = (omega arith, (refl, refl))
+loop-k-init c = (refl, refl)
 
 pub loop-k-preserved : goal.loop-k-preserved
 loop-k-preserved c =
     let l = c.loop-k in
-    let p = c.point_of-p in (
-      omega arith,
-      (length-set l.points l.k p.result ∙ l.invariant.1.0, point-more c.args.words.now l.k l.points p.result (omega arith) l.invariant.1.0 p.ensures ∙ l.invariant.1.1),
-    )
+    let p = c.point_of in
+    (length-set l.points l.k p.result ∙ l.invariant.0, point-more c.args.words.now l.k l.points p.result (omega arith) l.invariant.0 p.ensures ∙ l.invariant.1)
 
 pub returns : goal.returns
 unfolding points_from
@@ -28,4 +26,4 @@ returns c =
     sym (take_all 16 l.points (omega arith))
     ∙ sym (append-nil (take 16 l.points))
     ∙ ap (λ (k : ℕ). take k l.points ++ points_from c.args.words.now k (16 - k)) (sym z)
-    ∙ l.invariant.1.1
+    ∙ l.invariant.1

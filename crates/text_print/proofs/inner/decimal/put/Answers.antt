@@ -1,24 +1,22 @@
--- `text_print::inner::decimal::put` meets its contract: the first i bytes of s are written. Assumes nothing.
+-- `text_print::inner::decimal::put` meets its contract: the part is lent, copied to, and back in its place. Assumes nothing.
 use mathlib.Core.Path.{◌∙◌, ap, sym, refl}
-use Prim.Native.Nat.{◌-◌, ℕ}
-use native.Mathlib.Omega.{arith}
-use native.Mathlib.Numerals.{add-one}
-use borrow.Author.Rules.{rules}
-use lib.ListN.{take, length-set}
-use lib.Seq.{take-suc, take_all}
-use Rattle.text_print.proofs.Decimals.{one_more, reads, moved}
+use mathlib.Core.List.{List, ◌++◌, append_assoc}
+use Prim.Native.Nat.{ℕ, ◌+◌}
+use native.Mathlib.Nat.{le-add_right}
+use borrow.Rule.Slice.PartMut.{Post-is}
+use lib.ListN.{length, take, drop}
+use lib.Seq.{sets-eq}
 use Rattle.text_print.proofs.inner.decimal.put.Goals as goal
 
-pub loop-i-init : goal.loop-i-init
-loop-i-init c = (search rules, search rules, record { next = refl; laid = refl })
-
-pub loop-i-preserved : goal.loop-i-preserved
-loop-i-preserved c = let l = c.loop-i in
-    let s = c.args.s.now in (
-      search rules,
-      simp length-set (omega arith),
-      reads (sym (ap (λ (k : ℕ). take k s) (add-one l.i) ∙ take-suc s l.i 0 (omega arith))) (moved (omega arith) (one_more _ l.invariant.2)),
-    )
-
 pub returns : goal.returns
-returns c = reads (take_all c.loop-i.i c.args.s.now (omega arith)) c.loop-i.invariant.2
+returns c =
+    let a = c.args in
+    let n = length a.s.now in
+    record {
+      next = refl;
+      laid =
+          ap (λ (z : List ℕ). take a.at a.out.now ++ (c.copy_from_slice.new.self ++ z)) (Post-is a.at (a.at + n) a.out.now (le-add_right a.at n))
+          ∙ ap (λ (ys : List ℕ). take a.at a.out.now ++ (ys ++ drop (a.at + n) a.out.now)) c.copy_from_slice.ensures.after
+          ∙ sym (append_assoc (take a.at a.out.now) a.s.now (drop (a.at + n) a.out.now))
+          ∙ sym (sets-eq a.s.now a.out.now a.at c.requires);
+    }
