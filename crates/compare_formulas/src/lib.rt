@@ -99,7 +99,7 @@ fn cost_is(line: &[u64], count: usize, ops: &[u8], operands: &[u64], from: usize
         return false;
     };
     let told = [cost.size as u64, cost.products as u64, cost.depth as u64];
-    compare_lines::words_same(&told, line, from)
+    compare_lines::inner::words_same(&told, line, from)
 }
 
 // The n numbers from `from` on, as opcodes; zeros past them.

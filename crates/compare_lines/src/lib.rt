@@ -3,7 +3,7 @@
 
 pub mod inner;
 
-ghost use Rattle.std.specs.Prelude.{◌+◌, ◌≤◌, length};
+ghost use Rattle.std.specs.Prelude.{◌≤◌};
 
 use limits::Refusal;
 
@@ -48,13 +48,6 @@ pub fn first_mut<T>(s: &mut [T], n: u64) -> &mut [T] {
 // The element at a place, 0 past the end.
 pub fn number_at<T: Copy + Into<u64>>(s: &[T], at: usize) -> u64 {
     if at < s.len() { s[at].into() } else { 0 }
-}
-
-// Whether the words stand in the line from `base` on.
-pub fn words_same(words: &[u64], line: &[u64], base: usize) -> bool
-    requires { base + length words.now ≤ length line.now }
-{
-    words == &line[base..base + words.len()]
 }
 
 // The number of a call's refusal, 0 for none.

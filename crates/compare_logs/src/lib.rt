@@ -3,7 +3,8 @@
 
 ghost use Rattle.std.specs.Prelude.{◌≤◌, length};
 
-use compare_lines::{narrow, number_at, refusal_of, words_same};
+use compare_lines::inner::words_same;
+use compare_lines::{narrow, number_at, refusal_of};
 use limits::Refusal;
 use log_rules::LentRules;
 use log_run::{Log, Shown};

@@ -4,7 +4,8 @@
 ghost use Rattle.std.specs.Prelude.{◌+◌, ◌≤◌, length};
 
 use compare_indexes::inner::Asked;
-use compare_lines::{OLD_HALF, OLD_WORD, narrow, words_same};
+use compare_lines::inner::words_same;
+use compare_lines::{OLD_HALF, OLD_WORD, narrow};
 use limits::Refusal;
 use row_gates::Gate;
 use search_residual_trial::inner::Found;

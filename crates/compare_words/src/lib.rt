@@ -3,7 +3,8 @@
 
 ghost use Rattle.std.specs.Prelude.{◌+◌, ◌≤◌, length};
 
-use compare_lines::{narrow, refusal_of, words_same};
+use compare_lines::inner::words_same;
+use compare_lines::{narrow, refusal_of};
 use limits::Refusal;
 use row_gates::{Gate, ROW_WORDS};
 

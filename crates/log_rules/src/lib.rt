@@ -27,7 +27,7 @@ pub struct LentRules<'a> {
 
 impl<'a> LentRules<'a> {
     // The rule at place i.
-    pub fn rule(&self, i: usize) -> LentRule<'a>
+    pub(crate) fn rule(&self, i: usize) -> LentRule<'a>
         requires { IsThere self.now i }
         ensures { rule_of result ≡ rule_at (rules_of self.now) i }
     {
