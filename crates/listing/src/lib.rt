@@ -19,10 +19,10 @@ pub fn write_listing(out: &mut [u8], p: Parse) -> Result<usize, Refusal>
         return Err(Refusal::ShortArray);
     }
     let Some(numbers) = text_parse::finish(p) else {
-        return Ok(text_print::inner::print_refusal(out, Refusal::Text));
+        return Ok(text_print::inner::print_refusal(out, u32::from(Refusal::Text)));
     };
     if let Err(refusal) = inner::check(numbers) {
-        return Ok(text_print::inner::print_refusal(out, refusal));
+        return Ok(text_print::inner::print_refusal(out, u32::from(refusal)));
     }
     Ok(inner::list_numbers(out, numbers))
 }

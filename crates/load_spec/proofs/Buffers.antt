@@ -1,6 +1,6 @@
 -- The statements of specs/Buffers. Assumes nothing.
 use mathlib.Core.Path.{◌≡◌, refl, sym, ap, ◌∙◌}
-use mathlib.Core.Bool.{Bool, true, false, cond}
+use mathlib.Core.Bool.{Bool, cond}
 use mathlib.Core.Logic.{◌⊎◌, inl, inr}
 use mathlib.Core.List.{List, [], ◌∷◌, ◌++◌, append-nil, append_assoc}
 use mathlib.Core.Option.{Option, none, some}
@@ -9,19 +9,17 @@ use native.Mathlib.Omega.{arith}
 use borrow.Author.Tests.{lt-ltb, le-ltb, leb-true}
 use lib.Dec.{ltb, leb}
 use lib.ListN.{length, length-append}
-use Rattle.std.specs.Prelude.{Some, None}
-use Rattle.limits.specs.declared.Refusal.TheVariants.{Text}
-use Rattle.limits.specs.Refusal.{refuse, bad_count, bad_width, unless_refused}
+use Rattle.limits.specs.Refusal.{unless_refused}
 use Rattle.limits.proofs.Refusals.{le_or_lt, unless_refused_lem, unless_not, and_left, and_right}
 use Rattle.text_parse.specs.Text.{load_many, read_text}
 use Rattle.text_print.specs.Text.{formula_line, refused_line, answer_of}
 use Rattle.text_print.proofs.Answers.{answer_nine, answer-refused, answer-text}
 use Rattle.text_print.proofs.Lengths.{line-length, refused-length}
-use Rattle.load_draw.specs.Draw.{bad_limit, formula_from}
+use Rattle.load_draw.specs.Draw.{formula_from}
 use Rattle.load_draw.proofs.Drawing.{form-most}
 use Rattle.load_text.specs.declared.Load.{Load}
-use Rattle.load_text.specs.Text.{vars_of, width_of, limit_of, numbers_refusal, load_refusal, lines_from, lines_for, load_text}
-use Rattle.load_text.specs.Writing.{line_max, number_in, refusal_at, bare_load, load_of, start_of, further, owed, Lines, after, lines_in, Part, part_of}
+use Rattle.load_text.specs.Text.{numbers_refusal, load_refusal, lines_from, lines_for, load_text}
+use Rattle.load_text.specs.Writing.{line_max, bare_load, load_of, start_of, further, owed, Lines, after, lines_in, Part, part_of}
 use Rattle.load_text.proofs.Refusing.{fit}
 use Rattle.load_text.proofs.Lines.{lines_none, lines_more, in_none, in_short, in_more}
 use Rattle.load_text.proofs.Parts.{part_none, part_told, part_lines, part_unfit, part_fewer}
@@ -36,7 +34,7 @@ module _ (l : Load) where
   refusal = load_refusal l.nv l.w l.limit
 
   abbrev some-owed : List ℕ
-  some-owed = cond (ltb 0 (number_in l.refusal)) (refused_line (number_in l.refusal)) (unless_refused refusal lines [])
+  some-owed = cond (ltb 0 l.number) (refused_line l.number) (unless_refused refusal lines [])
 
   pub owed_none : l.left ≡ 0 → owed l ≡ []
   unfolding owed
@@ -47,17 +45,17 @@ module _ (l : Load) where
     unfolding owed
     here = ap (λ (b : Bool). cond b some-owed []) (lt-ltb 0 l.left some)
 
-    pub owed-told : 0 < number_in l.refusal → owed l ≡ refused_line (number_in l.refusal)
-    owed-told h = here ∙ ap (λ (b : Bool). cond b (refused_line (number_in l.refusal)) (unless_refused refusal lines [])) (lt-ltb 0 (number_in l.refusal) h)
+    pub owed-told : 0 < l.number → owed l ≡ refused_line l.number
+    owed-told h = here ∙ ap (λ (b : Bool). cond b (refused_line l.number) (unless_refused refusal lines [])) (lt-ltb 0 l.number h)
 
-    drawn : number_in l.refusal ≡ 0 → owed l ≡ unless_refused refusal lines []
-    drawn e = here ∙ ap (λ (b : Bool). cond b (refused_line (number_in l.refusal)) (unless_refused refusal lines [])) (le-ltb 0 (number_in l.refusal) (omega (arith, e)))
+    drawn : l.number ≡ 0 → owed l ≡ unless_refused refusal lines []
+    drawn e = here ∙ ap (λ (b : Bool). cond b (refused_line l.number) (unless_refused refusal lines [])) (le-ltb 0 l.number (omega (arith, e)))
 
-    pub owed-unfit : number_in l.refusal ≡ 0 → 0 < refusal → owed l ≡ []
+    pub owed-unfit : l.number ≡ 0 → 0 < refusal → owed l ≡ []
     owed-unfit e h = drawn e ∙ unless_refused_lem refusal lines [] h
 
   -- the lines of a load that may be drawn, also where none is left
-  pub owed-lines : number_in l.refusal ≡ 0 → refusal ≡ 0 → owed l ≡ lines
+  pub owed-lines : l.number ≡ 0 → refusal ≡ 0 → owed l ≡ lines
   owed-lines e f = go (le_or_lt 1 l.left)
     where
       go : (1 ≤ l.left) ⊎ (l.left < 1) → owed l ≡ lines
@@ -67,31 +65,18 @@ module _ (l : Load) where
           owed_none z ∙ sym (ap (λ (n : ℕ). lines_from l.nv l.w l.limit n l.state) z ∙ lines_none l.nv l.w l.limit l.state)
 
 -- ---- the start
--- the refusal of a load is one of the table
-refusal-told : (nv w limit : ℕ) → number_in (refusal_at (load_refusal nv w limit)) ≡ load_refusal nv w limit
-unfolding load_refusal
-refusal-told nv w limit = go (bad_count nv) (bad_width w) (bad_limit limit)
-  where
-    go : (a b c : Bool) → number_in (refusal_at (refuse a 1 (refuse b 2 (refuse c 6 0)))) ≡ refuse a 1 (refuse b 2 (refuse c 6 0))
-    go true b c = refl
-    go false true c = refl
-    go false false true = refl
-    go false false false = refl
-
 start_by : (o : Option (List ℕ)) → owed (start_of o) ≡ answer_of numbers_refusal lines_for o
-start_by none = owed-told (bare_load (Some Text) 1) (omega arith) (omega arith) ∙ answer_nine numbers_refusal lines_for none refl
+start_by none = owed-told (bare_load 9 1) (omega arith) (omega arith) ∙ answer_nine numbers_refusal lines_for none refl
 start_by (some ns) = go (le_or_lt 1 (numbers_refusal ns))
   where
     go : (1 ≤ numbers_refusal ns) ⊎ (numbers_refusal ns < 1) → owed (start_of (some ns)) ≡ answer_of numbers_refusal lines_for (some ns)
     go (inl h) =
-        let told : number_in (refusal_at (numbers_refusal ns)) ≡ numbers_refusal ns = refusal-told (vars_of ns) (width_of ns) (limit_of ns) in
-        ap owed (unless_refused_lem (numbers_refusal ns) (load_of ns) (bare_load (refusal_at (numbers_refusal ns)) 1) h)
-        ∙ owed-told (bare_load (refusal_at (numbers_refusal ns)) 1) (omega arith) (omega (arith, told, h))
-        ∙ ap refused_line told
+        ap owed (unless_refused_lem (numbers_refusal ns) (load_of ns) (bare_load (numbers_refusal ns) 1) h)
+        ∙ owed-told (bare_load (numbers_refusal ns) 1) (omega arith) h
         ∙ answer-refused numbers_refusal lines_for (some ns) ns refl (numbers_refusal ns) refl h
     go (inr h) =
         let z : numbers_refusal ns ≡ 0 = omega (arith, h) in
-        ap owed (unless_not (numbers_refusal ns) (load_of ns) (bare_load (refusal_at (numbers_refusal ns)) 1) z)
+        ap owed (unless_not (numbers_refusal ns) (load_of ns) (bare_load (numbers_refusal ns) 1) z)
         ∙ owed-lines (load_of ns) refl z
         ∙ answer-text numbers_refusal lines_for (some ns) ns refl z
 
@@ -124,19 +109,19 @@ module _ (nv w limit : ℕ) where
           ∙ sym (ap (λ (f : Lines). f.text ++ lines_from nv w limit f.left f.state) (in_more nv w limit room (suc n) s h (omega arith) ∙ ap (λ (k : ℕ). after (line s) (lines_in nv w limit (room - length (line s)) k (next s))) one))
 
 pub owed_on : (l : Load) (room : ℕ) → 0 < l.left → owed l ≡ (part_of l room).text ++ owed (part_of l room).load
-owed_on l room left = go (le_or_lt 1 (number_in l.refusal)) (le_or_lt 1 (load_refusal l.nv l.w l.limit))
+owed_on l room left = go (le_or_lt 1 l.number) (le_or_lt 1 (load_refusal l.nv l.w l.limit))
   where
     by : {p : Part} → part_of l room ≡ p → owed l ≡ p.text ++ owed p.load → owed l ≡ (part_of l room).text ++ owed (part_of l room).load
     by e h = h ∙ sym (ap (λ (p : Part). p.text ++ owed p.load) e)
 
-    nothing : (t : List ℕ) → t ≡ t ++ owed (bare_load None 0)
-    nothing t = sym (ap (λ (x : List ℕ). t ++ x) (owed_none (bare_load None 0) refl) ∙ append-nil t)
+    nothing : (t : List ℕ) → t ≡ t ++ owed (bare_load 0 0)
+    nothing t = sym (ap (λ (x : List ℕ). t ++ x) (owed_none (bare_load 0 0) refl) ∙ append-nil t)
 
-    go : (1 ≤ (number_in l.refusal)) ⊎ ((number_in l.refusal) < 1) → (1 ≤ load_refusal l.nv l.w l.limit) ⊎ (load_refusal l.nv l.w l.limit < 1) → owed l ≡ (part_of l room).text ++ owed (part_of l room).load
-    go (inl h) k = by (part_told l room left h) (owed-told l left h ∙ nothing (refused_line (number_in l.refusal)))
-    go (inr h) (inl k) = let untold : number_in l.refusal ≡ 0 = omega (arith, h) in by (part_unfit l room left untold k) (owed-unfit l left untold k ∙ nothing [])
+    go : (1 ≤ l.number) ⊎ (l.number < 1) → (1 ≤ load_refusal l.nv l.w l.limit) ⊎ (load_refusal l.nv l.w l.limit < 1) → owed l ≡ (part_of l room).text ++ owed (part_of l room).load
+    go (inl h) k = by (part_told l room left h) (owed-told l left h ∙ nothing (refused_line l.number))
+    go (inr h) (inl k) = let untold : l.number ≡ 0 = omega (arith, h) in by (part_unfit l room left untold k) (owed-unfit l left untold k ∙ nothing [])
     go (inr h) (inr k) =
-        let untold : number_in l.refusal ≡ 0 = omega (arith, h) in
+        let untold : l.number ≡ 0 = omega (arith, h) in
         let fits : load_refusal l.nv l.w l.limit ≡ 0 = omega (arith, k) in
         let f = lines_in l.nv l.w l.limit room l.left l.state in
         by (part_lines l room left untold fits)
@@ -180,14 +165,14 @@ module _ (nv w limit : ℕ) (least : 1 ≤ limit) (most : limit ≤ 64) where
           )
 
 pub part_fits : PartFits
-part_fits l room long = go (le_or_lt 1 l.left) (le_or_lt 1 (number_in l.refusal)) (le_or_lt 1 (load_refusal l.nv l.w l.limit))
+part_fits l room long = go (le_or_lt 1 l.left) (le_or_lt 1 l.number) (le_or_lt 1 (load_refusal l.nv l.w l.limit))
   where
     by : {p : Part} → part_of l room ≡ p → length p.text ≤ room → length (part_of l room).text ≤ room
     by e h = omega (arith, ap (λ (p : Part). length p.text) e, h)
 
-    go : (1 ≤ l.left) ⊎ (l.left < 1) → (1 ≤ (number_in l.refusal)) ⊎ ((number_in l.refusal) < 1) → (1 ≤ load_refusal l.nv l.w l.limit) ⊎ (load_refusal l.nv l.w l.limit < 1) → length (part_of l room).text ≤ room
+    go : (1 ≤ l.left) ⊎ (l.left < 1) → (1 ≤ l.number) ⊎ (l.number < 1) → (1 ≤ load_refusal l.nv l.w l.limit) ⊎ (load_refusal l.nv l.w l.limit < 1) → length (part_of l room).text ≤ room
     go (inr a) b c = by (part_none l room (omega (arith, a))) (omega arith)
-    go (inl a) (inl b) c = by (part_told l room a b) (omega (arith, refused-length (number_in l.refusal)))
+    go (inl a) (inl b) c = by (part_told l room a b) (omega (arith, refused-length l.number))
     go (inl a) (inr b) (inl c) = by (part_unfit l room a (omega (arith, b)) c) (omega arith)
     go (inl a) (inr b) (inr c) =
         let z : load_refusal l.nv l.w l.limit ≡ 0 = omega (arith, c) in

@@ -1,41 +1,21 @@
 -- The load that a text asks for: the kept numbers ask for what the text's do. Assumes nothing.
-use mathlib.Core.Path.{◌≡◌, refl, sym, ap, ◌∙◌}
+use mathlib.Core.Path.{◌≡◌, sym, ap, ◌∙◌}
 use mathlib.Core.List.{List}
 use mathlib.Core.Option.{none}
 use Prim.Native.Nat.{ℕ, ◌<◌}
 use native.Mathlib.Omega.{arith}
 use borrow.Author.Tests.{eqb-true}
 use lib.ListN.{length, get_or}
-use Rattle.std.specs.Prelude.{Some, None}
-use Rattle.std.specs.declared.option.Option as Std
-use Rattle.limits.specs.declared.Refusal.{Refusal}
-use Rattle.limits.specs.declared.Refusal.TheVariants.{VariableCount, Width, Limit, ShortArray, LargeWord, Formula, Claim, Order, Text, Window, Ranks}
-use Rattle.limits.specs.Refusal.{number_of}
-use Rattle.limits.proofs.Refusals.{unless_not}
-use Rattle.limits.proofs.Answers.{unless_err}
+use Rattle.limits.proofs.Refusals.{unless_refused_lem, unless_not}
 use Rattle.text_parse.specs.Text.{load_many, read_text}
 use Rattle.text_parse.specs.Reading.{Given}
 use Rattle.text_parse.proofs.Rules.{right-many}
 use Rattle.load_text.specs.declared.Load.{Load}
 use Rattle.load_text.specs.Text.{load_refusal, numbers_refusal}
-use Rattle.load_text.specs.Writing.{refusal_at, bare_load, load_of, start_of}
-
--- a refusal is that of its number
-refusal-is : (r : Refusal) → refusal_at (number_of r) ≡ Some r
-refusal-is VariableCount = refl
-refusal-is Width = refl
-refusal-is Limit = refl
-refusal-is ShortArray = refl
-refusal-is LargeWord = refl
-refusal-is Formula = refl
-refusal-is Claim = refl
-refusal-is Order = refl
-refusal-is Text = refl
-refusal-is Window = refl
-refusal-is Ranks = refl
+use Rattle.load_text.specs.Writing.{bare_load, load_of, start_of}
 
 module _ (text : List ℕ) where
-  pub start_nine : read_text load_many text ≡ none → bare_load (Some Text) 1 ≡ start_of (read_text load_many text)
+  pub start_nine : read_text load_many text ≡ none → bare_load 9 1 ≡ start_of (read_text load_many text)
   start_nine e = sym (ap start_of e)
 
   module _ (numbers : List ℕ) (given : Given load_many numbers text) where
@@ -48,7 +28,7 @@ module _ (text : List ℕ) where
 
     load_same : load_of numbers ≡ load_of given.ns
     load_same = λ i. record {
-      refusal = None;
+      number = 0;
       state = same 0 (omega arith) i;
       nv = same 1 (omega arith) i;
       w = same 2 (omega arith) i;
@@ -59,14 +39,14 @@ module _ (text : List ℕ) where
     refusal-same : numbers_refusal numbers ≡ numbers_refusal given.ns
     refusal-same = ap (λ (l : Load). load_refusal l.nv l.w l.limit) load_same
 
-    pub start-refused : (r : Refusal) → number_of r ≡ numbers_refusal numbers → bare_load (Some r) 1 ≡ start_of (read_text load_many text)
-    start-refused r e =
-        ap (λ (o : Std.Option Refusal). bare_load o 1) (sym (refusal-is r) ∙ ap refusal_at (e ∙ refusal-same))
-        ∙ sym (unless_err r (numbers_refusal given.ns) (load_of given.ns) (bare_load (refusal_at (numbers_refusal given.ns)) 1) (e ∙ refusal-same))
+    pub start-refused : (n : ℕ) → n ≡ numbers_refusal numbers → 0 < n → bare_load n 1 ≡ start_of (read_text load_many text)
+    start-refused n e h =
+        ap (λ (k : ℕ). bare_load k 1) (e ∙ refusal-same)
+        ∙ sym (unless_refused_lem (numbers_refusal given.ns) (load_of given.ns) (bare_load (numbers_refusal given.ns) 1) (omega (arith, h, e, refusal-same)))
         ∙ sym (ap start_of given.is)
 
     pub start-load : numbers_refusal numbers ≡ 0 → load_of numbers ≡ start_of (read_text load_many text)
     start-load e =
         load_same
-        ∙ sym (unless_not (numbers_refusal given.ns) (load_of given.ns) (bare_load (refusal_at (numbers_refusal given.ns)) 1) (sym refusal-same ∙ e))
+        ∙ sym (unless_not (numbers_refusal given.ns) (load_of given.ns) (bare_load (numbers_refusal given.ns) 1) (sym refusal-same ∙ e))
         ∙ sym (ap start_of given.is)

@@ -1,5 +1,5 @@
 -- What the contracts of src/inner.rt cite, beside specs/Writing. Assumes nothing.
-use Rattle.std.specs.Prelude.{◌≡◌, List, [], ℕ, ◌<◌, length, None}
+use Rattle.std.specs.Prelude.{◌≡◌, List, [], ℕ, ◌<◌, length}
 use Rattle.text_print.specs.Printing.{Wrote}
 use Rattle.load_text.specs.declared.Load.{Load}
 use Rattle.load_text.specs.declared.LoadPart.{LoadPart}
@@ -18,4 +18,4 @@ WroteLines l out out' r = Answers (lines_part l (lines_in l.nv l.w l.limit (leng
 -- the same of a load that may be drawn, and nothing of any other
 pub record WroteFit (l : Load) (out out' : List ℕ) (r : LoadPart) : Type 0 where
   pub lines : load_refusal l.nv l.w l.limit ≡ 0 → WroteLines l out out' r
-  pub nothing : 0 < load_refusal l.nv l.w l.limit → Answers (record { text = []; load = bare_load None 0 }) out out' r
+  pub nothing : 0 < load_refusal l.nv l.w l.limit → Answers (record { text = []; load = bare_load 0 0 }) out out' r

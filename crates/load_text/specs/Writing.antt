@@ -1,12 +1,11 @@
 -- The text of a load, buffer after buffer: what is still to be written, and what a call writes of it. Assumes nothing.
-use Rattle.std.specs.Prelude.{◌≡◌, cond, List, [], ◌++◌, ℕ, zero, suc, ◌-◌, ◌≤◌, ◌<◌, eqb, ltb, length, Some, None, Ok, Err}
-use Rattle.std.specs.declared.option.Option as Std
+use Rattle.std.specs.Prelude.{◌≡◌, cond, List, [], ◌++◌, ℕ, zero, suc, ◌-◌, ◌≤◌, ◌<◌, ltb, length, Ok, Err}
 use Rattle.std.specs.declared.result.Result.{Result}
 use Rattle.std.proofs.Math.Option.{Option, none, some}
 use Rattle.std.proofs.lemmas.List.Edits.{sets}
 use Rattle.limits.specs.declared.Refusal.{Refusal}
-use Rattle.limits.specs.declared.Refusal.TheVariants.{VariableCount, Width, Limit, ShortArray, LargeWord, Formula, Claim, Order, Text, Window, Ranks}
-use Rattle.limits.specs.Refusal.{number_of, unless_refused}
+use Rattle.limits.specs.declared.Refusal.TheVariants.{ShortArray}
+use Rattle.limits.specs.Refusal.{unless_refused}
 use Rattle.text_print.specs.Text.{formula_line, refused_line}
 use Rattle.load_draw.specs.Draw.{formula_from}
 use Rattle.load_text.specs.declared.Load.{Load}
@@ -17,50 +16,30 @@ use Rattle.load_text.specs.Text.{seed_of, vars_of, width_of, limit_of, many_of, 
 abbrev pub line_max : ℕ
 line_max = 1409
 
--- ---- refusals
--- the number of one that there may be, 0 for none, and the one that a number stands for
-abbrev pub number_in : Std.Option Refusal → ℕ
-number_in None = 0
-number_in (Some r) = number_of r
-
-abbrev pub refusal_at : ℕ → Std.Option Refusal
-refusal_at n =
-    cond (eqb n 1) (Some VariableCount)
-    (cond (eqb n 2) (Some Width)
-    (cond (eqb n 3) (Some Limit)
-    (cond (eqb n 4) (Some ShortArray)
-    (cond (eqb n 5) (Some LargeWord)
-    (cond (eqb n 6) (Some Formula)
-    (cond (eqb n 7) (Some Claim)
-    (cond (eqb n 8) (Some Order)
-    (cond (eqb n 9) (Some Text)
-    (cond (eqb n 10) (Some Window)
-    (cond (eqb n 11) (Some Ranks) None))))))))))
-
 -- ---- loads
--- one that draws no formula: a refusal and the line that tells it, or, with none and 0, nothing
-abbrev pub bare_load : Std.Option Refusal → ℕ → Load
-bare_load refusal left = record { refusal = refusal; state = 0; nv = 1; w = 1; limit = 1; left = left }
+-- one that draws no formula: a number and the line that tells it, or, with 0 and 0, nothing
+abbrev pub bare_load : ℕ → ℕ → Load
+bare_load number left = record { number = number; state = 0; nv = 1; w = 1; limit = 1; left = left }
 
 -- the load that the numbers of a text ask for
 abbrev pub load_of : List ℕ → Load
-load_of ns = record { refusal = None; state = seed_of ns; nv = vars_of ns; w = width_of ns; limit = limit_of ns; left = many_of ns }
+load_of ns = record { number = 0; state = seed_of ns; nv = vars_of ns; w = width_of ns; limit = limit_of ns; left = many_of ns }
 
 -- the load of what was read: a refusal's one line, or the lines of the numbers
 abbrev pub start_of : Option (List ℕ) → Load
-start_of none = bare_load (Some Text) 1
-start_of (some ns) = unless_refused (numbers_refusal ns) (load_of ns) (bare_load (refusal_at (numbers_refusal ns)) 1)
+start_of none = bare_load 9 1
+start_of (some ns) = unless_refused (numbers_refusal ns) (load_of ns) (bare_load (numbers_refusal ns) 1)
 
 -- the load l further on
 abbrev pub further : Load → ℕ → ℕ → Load
-further l left state = record { refusal = None; state = state; nv = l.nv; w = l.w; limit = l.limit; left = left }
+further l left state = record { number = 0; state = state; nv = l.nv; w = l.w; limit = l.limit; left = left }
 
 -- what a load has still to write: where a line is left, that of its refusal, or all that are left; of a load that may not be drawn, which is never started, nothing
 unfoldable pub owed : Load → List ℕ
 unfolding load_refusal lines_from refused_line
 owed l =
     cond (ltb 0 l.left)
-    (cond (ltb 0 (number_in l.refusal)) (refused_line (number_in l.refusal)) (unless_refused (load_refusal l.nv l.w l.limit) (lines_from l.nv l.w l.limit l.left l.state) []))
+    (cond (ltb 0 l.number) (refused_line l.number) (unless_refused (load_refusal l.nv l.w l.limit) (lines_from l.nv l.w l.limit l.left l.state) []))
     []
 
 -- ---- a call
@@ -93,9 +72,9 @@ unfoldable pub part_of : Load → ℕ → Part
 unfolding load_refusal lines_in refused_line
 part_of l room =
     cond (ltb 0 l.left)
-    (cond (ltb 0 (number_in l.refusal))
-    (record { text = refused_line (number_in l.refusal); load = bare_load None 0 })
-    (unless_refused (load_refusal l.nv l.w l.limit) (lines_part l (lines_in l.nv l.w l.limit room l.left l.state)) (record { text = []; load = bare_load None 0 })))
+    (cond (ltb 0 l.number)
+    (record { text = refused_line l.number; load = bare_load 0 0 })
+    (unless_refused (load_refusal l.nv l.w l.limit) (lines_part l (lines_in l.nv l.w l.limit room l.left l.state)) (record { text = []; load = bare_load 0 0 })))
     (record { text = []; load = l })
 
 -- a buffer that is too short for a line is refused and stays as it is; else the text is laid from its start on

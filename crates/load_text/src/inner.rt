@@ -1,6 +1,6 @@
 // A load out of the numbers of a text, and its lines.
-ghost use Rattle.std.specs.Prelude.{◌≡◌, ◌+◌, ◌≤◌, length, None};
-ghost use Rattle.limits.specs.Refusal.{number_of, refusal_of};
+ghost use Rattle.std.specs.Prelude.{◌≡◌, ◌+◌, ◌≤◌, length};
+ghost use Rattle.limits.specs.Refusal.{refusal_of};
 ghost use Rattle.text_print.specs.Text.{formula_line, refused_line};
 ghost use Rattle.text_print.specs.Printing.{Wrote};
 ghost use Rattle.load_draw.specs.Draw.{formula_from};
@@ -46,7 +46,7 @@ pub fn load_of(numbers: [u64; 115]) -> Load
     ensures { result ≡ load_of numbers }
 {
     Load {
-        refusal: None,
+        number: 0,
         state: numbers[SEED_AT],
         nv: numbers[COUNT_AT] as u32,
         w: numbers[WIDTH_AT] as u32,
@@ -55,12 +55,12 @@ pub fn load_of(numbers: [u64; 115]) -> Load
     }
 }
 
-// A load of no formula: a refusal and the line that tells it, or nothing.
-pub fn bare_load(refusal: Option<Refusal>, left: u64) -> Load
-    ensures { result ≡ bare_load refusal left }
+// A load of no formula: a number and the line that tells it, or nothing.
+pub fn bare_load(number: u32, left: u64) -> Load
+    ensures { result ≡ bare_load number left }
 {
     Load {
-        refusal,
+        number,
         state: 0,
         nv: 1,
         w: 1,
@@ -70,15 +70,15 @@ pub fn bare_load(refusal: Option<Refusal>, left: u64) -> Load
 }
 
 // The line of a refusal, after which nothing is left.
-pub fn write_refusal(out: &mut [u8], refusal: Refusal) -> LoadPart
+pub fn write_refusal(out: &mut [u8], number: u32) -> LoadPart
     requires { line_max ≤ length out.old }
-    ensures wrote { Wrote out.old 0 out.new result.length (refused_line (number_of refusal)) }
-    ensures load { result.load ≡ bare_load None 0 }
+    ensures wrote { Wrote out.old 0 out.new result.length (refused_line number) }
+    ensures load { result.load ≡ bare_load 0 0 }
 {
-    let length = text_print::inner::print_refusal(out, refusal);
+    let length = text_print::inner::print_refusal(out, number);
     LoadPart {
         length,
-        load: bare_load(None, 0),
+        load: bare_load(0, 0),
     }
 }
 
@@ -92,7 +92,7 @@ pub fn write_fit(out: &mut [u8], load: Load) -> LoadPart
     if let Err(_) = load_draw::inner::check(&ops, &operands, load.nv, load.w, load.limit) {
         return LoadPart {
             length: 0,
-            load: bare_load(None, 0),
+            load: bare_load(0, 0),
         };
     }
     write_lines(out, &mut ops, &mut operands, load)
@@ -127,7 +127,7 @@ fn lines_part(load: Load, left: u64, state: u64, p: usize) -> LoadPart
     LoadPart {
         length: p,
         load: Load {
-            refusal: None,
+            number: 0,
             state,
             nv: load.nv,
             w: load.w,

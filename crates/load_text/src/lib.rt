@@ -14,10 +14,11 @@ use text_parse::Parse;
 // How long a buffer has to be: no line is longer.
 pub const LINE_MAX: usize = 1409;
 
-// What is still to be written: the line that tells a refusal, or as many lines as are left, drawn from the state on.
+// What is still to be written: the line that tells a refusal's number, or as many lines as are left, drawn from the state on. A number and no `Refusal`: each
+// number has its line, also one that the table doesn't have.
 #[derive(Clone, Copy)]
 pub struct Load {
-    refusal: Option<Refusal>,
+    number: u32,
     state: u64,
     nv: u32,
     w: u32,
@@ -37,11 +38,11 @@ pub fn start(p: Parse) -> Load
     ensures { (text : List ℕ) → length text + 1 < 2 ^ 64 → Reads p text → result ≡ start_of (read_text load_many text) }
 {
     let Some(numbers) = text_parse::finish_load(p) else {
-        return inner::bare_load(Some(Refusal::Text), 1);
+        return inner::bare_load(u32::from(Refusal::Text), 1);
     };
     let checked = inner::check(numbers);
     if let Err(refusal) = checked {
-        return inner::bare_load(Some(refusal), 1);
+        return inner::bare_load(u32::from(refusal), 1);
     }
     inner::load_of(numbers)
 }
@@ -63,8 +64,8 @@ pub fn write_some(out: &mut [u8], load: Load) -> Result<LoadPart, Refusal>
     if load.left == 0 {
         return Ok(LoadPart { length: 0, load });
     }
-    if let Some(refusal) = load.refusal {
-        return Ok(inner::write_refusal(out, refusal));
+    if load.number != 0 {
+        return Ok(inner::write_refusal(out, load.number));
     }
     Ok(inner::write_fit(out, load))
 }

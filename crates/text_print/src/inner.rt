@@ -4,12 +4,9 @@ pub mod formulas;
 pub mod lines;
 
 ghost use Rattle.std.specs.Prelude.{◌+◌, ◌*◌, ◌≤◌, length};
-ghost use Rattle.limits.specs.Refusal.{number_of};
 ghost use Rattle.text_print.specs.Text.{refused_line};
 ghost use Rattle.text_print.specs.Printing.{Wrote, text_max, refusal_max, atom_max};
 ghost use Rattle.text_print.specs.Lent.{AreStored, AreShown, ArePrinted, atoms_text};
-
-use limits::Refusal;
 
 // The formulas and costs of n atoms, in a bank's arrays.
 #[derive(Clone, Copy)]
@@ -56,11 +53,11 @@ fn print_atoms(out: &mut [u8], at: usize, atoms: &Atoms<'_>) -> usize
     )
 }
 
-// Writes the line of a refusal, and answers the place after it.
-pub fn print_refusal(out: &mut [u8], refusal: Refusal) -> usize
+// Writes the line of a refusal, and answers the place after it. A number and no `Refusal`: each number has its line, also one that the table doesn't have.
+pub fn print_refusal(out: &mut [u8], number: u32) -> usize
     requires { refusal_max ≤ length out.old }
-    ensures wrote { Wrote out.old 0 out.new result (refused_line (number_of refusal)) }
+    ensures wrote { Wrote out.old 0 out.new result (refused_line number) }
     ensures upper_bound { result ≤ refusal_max }
 {
-    decimal::write_named(out, 0, b"refused ", u32::from(refusal) as u64, b'\n')
+    decimal::write_named(out, 0, b"refused ", number as u64, b'\n')
 }
