@@ -29,13 +29,15 @@ pub fn index_is(line: &[u64], at: usize, atom_count: usize, atom_rows: &[u64]) -
         &mut order,
         &mut work,
     );
-    let Some(n) = pairs_of(built, line[at + 3]) else {
-        return false;
+    // of another mark, and refused, it counts as 2^64 - 1, which a line may say
+    let n = match pairs_of(built, line[at + 3]) {
+        Some(n) => n as u64,
+        None => u64::MAX,
     };
-    if n as u64 != line[at + 2] {
+    if n != line[at + 2] {
         return false;
     }
-    arrays_are(line, at, n as usize, &pairs, &pair_rows, &order)
+    arrays_are(line, at, narrow(n) as usize, &pairs, &pair_rows, &order)
 }
 
 // How many pairs an answer has, if it has the mark.

@@ -147,7 +147,8 @@ impl CostInfo {
         let cost = a.under_gate(b, is_nonlinear(g, self.varies, other.varies));
         CostInfo {
             cost,
-            varies: self.varies || other.varies,
+            // `|`: of `||` LLVM makes loads of four bytes, which wait for the single bytes just stored
+            varies: self.varies | other.varies,
         }
     }
 }

@@ -20,8 +20,10 @@ pub struct Tokens<'a> {
 }
 
 // The value of a formula that has passed the test, from left to right over a stack. What the stack holds before and after doesn't matter.
+// Inlined, so that the three fields of a formula need not go through memory.
+#[inline(always)]
 #[tactic(auto, using(crate::proofs::Stack::stage_word, crate::proofs::Stack::stage_unary, crate::proofs::Stack::stage_binary, crate::proofs::Stack::stage_bad, crate::proofs::Stack::stage_left, crate::proofs::Stack::stage_end))]
-fn eval_over(stack: &mut [u64], w: u32, f: &Tokens<'_>, words: &[u64]) -> u64
+pub fn eval_over(stack: &mut [u64], w: u32, f: &Tokens<'_>, words: &[u64]) -> u64
     requires { Evaluable w f.now.count f.now.ops.now f.now.operands.now words.now × (f.now.count ≤ length stack.old) }
     ensures { result ≡ value_of w words.now (tokens f.now.count f.now.ops.now f.now.operands.now) }
 {
@@ -75,6 +77,8 @@ pub fn eval_tokens(w: u32, count: usize, ops: &[u8], operands: &[u64], words: &[
 // ---- testing and evaluating in one pass, for a single evaluation
 
 // The value of the tokens over a stack, or 6 where they are no formula over nv variables.
+// Inlined, since a caller that reads the answer out of memory waits for its bytes, which were stored one by one.
+#[inline(always)]
 #[tactic(auto, using(crate::proofs::Checking::check_end, crate::proofs::Checking::check_left))]
 fn eval_checked_over(
     stack: &mut [u64],

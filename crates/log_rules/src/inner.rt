@@ -119,7 +119,8 @@ fn test_of<T: Copy>(x: Result<T, Refusal>) -> Result<(), Refusal>
 
 // ---- the rules
 
-// One rule over records. A rule has 64 places: with more tokens claimed it is no formula.
+// One rule over records. A rule has 64 places: with more tokens claimed it is no formula. Inlined with the run, so that `check_rules`, which takes no record, has none of it.
+#[inline(always)]
 fn ask(
     answers: &mut [u8],
     rule: &LentRule,
@@ -136,6 +137,7 @@ fn ask(
 }
 
 // The rule at place i over records: where it isn't refused, its window after them, and in `answers` where it fires.
+#[inline(always)]
 fn ask_at(
     answers: &mut [u8],
     i: usize,

@@ -11,10 +11,18 @@ use Rattle.arith.specs.Cong.{Cong}
 use Rattle.arith.specs.Word.{sub_of}
 use Rattle.arith.proofs.Congruence.{cong_refl, cong_trans, cong_eq, cong_add, cong_mul, cong_mod, cong_sym, cong_sub, sub-add}
 use Rattle.limits.proofs.Refusals.{true_not_false}
-use Rattle.row_gates.specs.Gates.{joined, gate_of, residual_of, invertible}
+use Rattle.row_gates.specs.Gates.{gate_number, gate_at, joined, gate_of, residual_of, invertible}
 use Rattle.row_gates.specs.Facts.{bitwise, ReducedBitByBit, ResidualCompletes, ResidualOnly}
 use Rattle.row_gates.specs.declared.Gate.{Gate}
 use Rattle.row_gates.specs.declared.Gate.TheVariants.{And, Or, Xor, Add, Mul}
+
+-- ---- gates and their numbers
+pub number-gate : (g : Gate) → gate_at (gate_number g) ≡ g
+number-gate And = refl
+number-gate Or = refl
+number-gate Xor = refl
+number-gate Add = refl
+number-gate Mul = refl
 
 -- ---- what a gate gives
 -- before it is reduced: every gate commutes

@@ -33,6 +33,10 @@ pub record Passed (w n : ℕ) (rows order : List ℕ) (p t : ℕ) (list : List �
   pub ordered : Ordered n rows order
   pub room : n ≤ length list
 
+-- a call's own answer to its test, where it is 0
+pub zero_of : (w n : ℕ) (rows order : List ℕ) (p t : ℕ) (list : List ℕ) (r : ℕ) → r ≡ candidates_refusal w n rows order p t list → r ≡ 0 → candidates_refusal w n rows order p t list ≡ 0
+zero_of w n rows order p t list r is e = sym is ∙ e
+
 pub none-refused : (w n : ℕ) (rows order : List ℕ) (p t : ℕ) (list : List ℕ) → candidates_refusal w n rows order p t list ≡ 0 → Passed w n rows order p t list
 none-refused w n rows order p t list e =
     let wide = passed (bad_width w) 2 _ (omega arith) e in

@@ -317,17 +317,15 @@ pub fn log_state(log: Log) -> LogState
 pub fn of_gate(undo: bool, a: &[u64], b: &[u64], g: u32, w: u32) -> RowReply
     ensures { result ≡ row_reply (or_else (gate_refusal w (two_short a.now b.now) g) (gate_call undo (gate_at g) w (row_in a.now) (row_in b.now))) }
 {
-    of_row(gate_on(undo, a, b, g, w))
-}
-
-fn gate_on(undo: bool, a: &[u64], b: &[u64], g: u32, w: u32) -> Result<[u64; 16], Refusal>
-    ensures { says result ≡ or_else (gate_refusal w (two_short a.now b.now) g) (gate_call undo (gate_at g) w (row_in a.now) (row_in b.now)) }
-{
-    let gate = slices::gate_in(w, slices::two_short(a, b), g)?;
+    // no `?` in a function of its own: a row in two results, one in the other, is copied twice more
+    let gate = match slices::gate_in(w, slices::two_short(a, b), g) {
+        Ok(gate) => gate,
+        Err(refusal) => return refused_row(u32::from(refusal)),
+    };
     let left = row_lent::inner::load_row(a, 0);
     let right = row_lent::inner::load_row(b, 0);
     if undo {
-        return row_gates::gate_residual(left, right, gate, w);
+        return of_row(row_gates::gate_residual(left, right, gate, w));
     }
-    row_gates::gate_apply(left, right, gate, w)
+    of_row(row_gates::gate_apply(left, right, gate, w))
 }
