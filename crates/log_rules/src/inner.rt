@@ -137,6 +137,7 @@ fn ask(
 }
 
 // The rule at place i over records: where it isn't refused, its window after them, and in `answers` where it fires.
+// Inlined with `ask`.
 #[inline(always)]
 fn ask_at(
     answers: &mut [u8],

@@ -229,6 +229,7 @@ fn run_rows(answers: &mut [u8], rule: &LentRule, past: u64, rows: usize, records
 }
 
 // All records: by rows as far as they go, then the rest.
+// Inlined with `run_rule`.
 #[inline(always)]
 pub fn run(answers: &mut [u8], rule: &LentRule, past: u64, records: &Records) -> u64
     requires { IsReady rule.now records.now records.now.n × (records.now.n ≤ length answers.old) }

@@ -40,6 +40,7 @@ pub struct Records<'a> {
 
 // Answers n records in the first places of `answers`: 1 where the formula was nonzero in at least m of the last `window` records, the
 // present one included, else 0; the state that continues the run. The records before these n are those that the state has seen. Refuses 1, 2, 4, 6, 10.
+// Inlined, so that a call with no records, by which log_rules tests a rule, has none of the run.
 #[inline(always)]
 pub fn run_rule(
     answers: &mut [u8],

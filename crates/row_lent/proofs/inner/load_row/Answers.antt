@@ -1,7 +1,6 @@
 -- `row_lent::inner::load_row` meets its contract: the places passed hold the words of the slot's row. Assumes nothing.
 use Prim.Native.Nat.{ℕ, ◌+◌, ◌*◌}
 use native.Mathlib.Omega.{arith}
-use borrow.Author.Rules.{rules}
 use lib.ListN.{get_or}
 use Rattle.arrays.specs.Parts.{part_at}
 use Rattle.arrays.proofs.Fill.{filled-all}
