@@ -6,8 +6,11 @@ use Prim.Native.Nat.{ℕ, ◌+◌, ◌<◌}
 use native.Mathlib.Nat.{add_comm, max_comm}
 use native.Mathlib.Decide.{ℕ_discrete}
 use native.Mathlib.Omega.{arith}
-use lib.Dec.{ltb}
+use lib.Dec.{ltb, eqb}
 use borrow.Author.Tests.{eq-eqb, ne_eqb, lt-ltb, le-ltb, ltb-true}
+use Rattle.std.specs.Prelude.{Option, Some}
+use Rattle.std.proofs.Common.{Ordering}
+use Rattle.std.specs.Ordering.{nat_cmp, is_lt, is_some_and, partial_ordering_then}
 use Rattle.arrays.proofs.Lists.{bool_cases}
 use Rattle.limits.proofs.Refusals.{le_or_lt, true_not_false}
 use Rattle.expr_cost.specs.declared.Cost.{Cost}
@@ -24,6 +27,26 @@ by_products c d e h = simp (eq-eqb _ _ e, ne_eqb _ _ h)
 pub by_depth : (c d : Cost) → c.size ≡ d.size → c.products ≡ d.products → ltb c.depth d.depth ≡ is_better c d
 unfolding is_better
 by_depth c d e h = simp (eq-eqb _ _ e, eq-eqb _ _ h)
+
+-- a derived order: a number decides, or the rest does where the two are equal
+by_first : (a b : ℕ) (o : Option Ordering) → is_some_and is_lt (partial_ordering_then (Some (nat_cmp a b)) o) ≡ cond (eqb a b) (is_some_and is_lt o) (ltb a b)
+by_first a b o = elim (ℕ_discrete a b) [
+  | yes e ↦ simp (eq-eqb a b e, le-ltb a b (omega arith))
+  | no n ↦ elim (le_or_lt b a) [
+    | inl l ↦ simp (ne_eqb a b n, le-ltb a b l)
+    | inr l ↦ simp (ne_eqb a b n, lt-ltb a b l)
+  ]
+]
+
+by_last : (a b : ℕ) → is_some_and is_lt (Some (nat_cmp a b)) ≡ ltb a b
+by_last a b = elim (le_or_lt b a) [ inl l ↦ elim (ℕ_discrete a b) [ yes e ↦ simp (eq-eqb a b e, le-ltb a b l) | no n ↦ simp (ne_eqb a b n, le-ltb a b l) ] | inr l ↦ simp (lt-ltb a b l) ]
+
+-- the derived order of costs is by the first number that differs
+pub derived_order : (a b : Cost) → is_some_and is_lt (partial_ordering_then (Some (nat_cmp a.size b.size)) (partial_ordering_then (Some (nat_cmp a.products b.products)) (Some (nat_cmp a.depth b.depth)))) ≡ is_better a b
+unfolding is_better
+derived_order a b =
+    by_first a.size b.size _
+    ∙ ap (λ (x : Bool). cond (eqb a.size b.size) x (ltb a.size b.size)) (by_first a.products b.products _ ∙ ap (λ (x : Bool). cond (eqb a.products b.products) x (ltb a.products b.products)) (by_last a.depth b.depth))
 
 -- by which number c is better than d
 pub data Better (c d : Cost) : Type 0 where

@@ -49,6 +49,7 @@ pub fn compute_cost(
 
 impl Cost {
     // Strictly smaller in (size, products, depth), first difference decides.
+    #[tactic(auto, using(crate::proofs::Costs::derived_order, crate::proofs::Costs::by_size, crate::proofs::Costs::by_products, crate::proofs::Costs::by_depth))]
     pub fn is_better(self, other: Cost) -> bool
         ensures { result ≡ is_better self other }
     {

@@ -284,10 +284,7 @@ fn record_after(x: Result<RecordAnswer, Refusal>, past: u64) -> RecordAnswer
 {
     match x {
         Ok(y) => y,
-        Err(_) => RecordAnswer {
-            answer: 0,
-            state: RuleState { past },
-        },
+        Err(_) => RecordAnswer::refused(RuleState { past }),
     }
 }
 

@@ -18,6 +18,16 @@ pub struct RecordAnswer {
     pub state: RuleState,
 }
 
+impl RecordAnswer {
+    // What a caller has after a refused record: the answer 0, and the state that it handed in.
+    pub fn refused(state: RuleState) -> RecordAnswer
+        ensures answer_value { result.answer ≡ 0 }
+        ensures state_value { result.state ≡ state }
+    {
+        RecordAnswer { answer: 0, state }
+    }
+}
+
 // Whether W is not 1 to 64, or M not 1 to W: refusal 10.
 pub fn bad_window(m: u32, window: u32) -> bool
     ensures { result ≡ bad_window m window }
