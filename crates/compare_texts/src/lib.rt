@@ -31,15 +31,15 @@ pub struct Case {
     // the number of its line
     pub line: u64,
     // bytes of the text that are to come
-    text_left: u64,
-    parse: Parse,
+    pub text_left: u64,
+    pub parse: Parse,
     // what the program prints of the text is in the buffer
-    written: bool,
+    pub written: bool,
     // bytes that must be printed, and how many of them have come
-    expected: usize,
-    at: usize,
+    pub expected: usize,
+    pub at: usize,
     // as long as expected, and no byte differs so far
-    same: bool,
+    pub same: bool,
 }
 
 // A case after a byte: still open, or at its end, the same or not.
